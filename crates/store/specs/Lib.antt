@@ -1,0 +1,4 @@
+pub mod Fun
+pub mod Meaning
+pub mod Calls
+pub mod Numbers
