@@ -1,0 +1,3 @@
+pub mod Extending
+pub mod Lines
+pub mod Checks

@@ -1,0 +1,5 @@
+pub mod Netlists
+pub mod Lines
+pub mod Files
+pub mod Rules
+pub mod Reading
