@@ -49,8 +49,8 @@ module _ (rule : (ℕ → Bool) → Gate → Bool) where
       ∙ kept gs (added before a) (length before) (omega arith)
       ∙ getD-push before _ false (length before) refl
       ∙ loc (λ x. getD before x false) (λ x. getD (extended rule gs (added before a)) x false) a
-          (sym (kept (a ∷ gs) before (a .left / 2) (omega arith)))
-          (sym (kept (a ∷ gs) before (a .right / 2) (omega arith)))
+      (sym (kept (a ∷ gs) before (a .left / 2) (omega arith)))
+      (sym (kept (a ∷ gs) before (a .right / 2) (omega arith)))
   ruled loc (a ∷ gs) before (suc g) h p q =
       let n = length-push before (rule (λ x. getD before x false) a) in
       let z : length before + suc g ≡ length (added before a) + g = omega arith in

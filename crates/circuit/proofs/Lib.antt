@@ -1,3 +1,5 @@
 pub mod Extending
 pub mod Lines
 pub mod Checks
+pub mod Steps
+pub mod Whole

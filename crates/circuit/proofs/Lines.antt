@@ -98,8 +98,8 @@ module _ (c : Netlist) (w : (g : ℕ) → g < length (c .gates) → Wired c g) w
     agree x (of-gate g l) t below =
         a .gated g l
         ∙ conjunction-local f h (gate c g)
-            (below _ (w g l .0) (⊎-elim (λ n. inl (λ z. n (left g l z))) inr t))
-            (below _ (w g l .1) (⊎-elim (λ n. inl (λ z. n (right g l z))) inr t))
+        (below _ (w g l .0) (⊎-elim (λ n. inl (λ z. n (left g l z))) inr t))
+        (below _ (w g l .1) (⊎-elim (λ n. inl (λ z. n (right g l z))) inr t))
         ∙ sym (b .gated g l)
 
     pub agreed : (n : ℕ) → n ≤ lines c → (x : ℕ) → x < n → Settled x → f x ≡ h x

@@ -3,3 +3,4 @@ pub mod Lines
 pub mod Files
 pub mod Rules
 pub mod Reading
+pub mod Steps

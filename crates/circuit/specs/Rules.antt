@@ -5,6 +5,7 @@ use mathlib.Core.List.{List}
 use Prim.Native.Nat.{ℕ, zero, suc, _+_, _-_, _*_, _/_, _≤_, _<_}
 use lib.Dec.{ltb, eqb}
 use lib.ListN.{length}
+use Rattle.std.specs.Orderings.{Decides}
 use Rattle.std.specs.declared.result.Result.{Result}
 use Rattle.std.specs.declared.result.Result.the-variants.{Ok, Err}
 use Rattle.circuit.specs.declared.refusal.Refusal.{Refusal}
@@ -68,3 +69,10 @@ reading width bs =
     (refused-if (not (eqb (length bs) (6 + 4 * count bs))) (Length (length bs))
     (refused-if (ltb width (2 * registers bs + inputs bs)) (Width (2 * registers bs + inputs bs))
     (checking (says bs)))))))
+
+-- the tests above say what they should: `least` of the gates the first that is miswired, and `touching` what touches an input
+pub record Tested (c : Netlist) : Type 0 where
+  pub all-wired : first-miswired c ≡ length (c .gates) → (g : ℕ) → g < length (c .gates) → Wired c g
+  pub first : first-miswired c < length (c .gates) → Wired c (first-miswired c) → ⊥
+  pub earlier : (g : ℕ) → g < first-miswired c → Wired c g
+  pub touches : ((g : ℕ) → g < length (c .gates) → Wired c g) → (x : ℕ) → x < lines c → Decides (touching c x) (Touches c x)

@@ -1,3 +1,4 @@
+ghost use Prim.Native.Nat.{_≤_};
 ghost use Rattle.circuit.specs.Netlists.{netlist-of};
 ghost use Rattle.circuit.specs.Rules.{Sound};
 use super::gate::Gate;
@@ -5,9 +6,10 @@ use super::gate::Gate;
 // A circuit that passed every check of its file.
 #[derive(Clone, Copy)]
 pub struct Circuit {
-    registers: u8,
-    inputs: u8,
-    count: u16,
-    gates: [Gate; 1024],
+    pub(crate) registers: u8,
+    pub(crate) inputs: u8,
+    pub(crate) count: u16,
+    pub(crate) gates: [Gate; 1024],
+    ghost few: { count ≤ 1024 },
     ghost sound: { ∥ Sound (netlist-of registers inputs count gates) ∥₁ },
 }
