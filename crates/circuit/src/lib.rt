@@ -4,7 +4,7 @@ ghost use mathlib.Core.Bool.{_&&_};
 ghost use mathlib.Core.List.{List, map};
 ghost use Prim.Native.Nat.{ℕ, _+_, _*_, _/_, _≤_, _<_};
 ghost use lib.Dec.{ltb};
-ghost use lib.ListN.{length, take};
+ghost use lib.ListN.{length, getD, take};
 ghost use Rattle.std.specs.Iters.{counting};
 ghost use Rattle.std.specs.Results.{Cases};
 ghost use Rattle.std.specs.Vec.{made};
@@ -61,12 +61,19 @@ impl Refusal {
     }
 }
 
-// Number i of the file: two bytes, low byte first.
-fn number_at(file: &[u8], i: usize) -> u16
-    requires { ⌜ 2 * i + 1 < length (now file) ⌝ }
+// The byte at `i`, or 0 past the end.
+fn byte_at(file: &[u8], i: usize) -> u8
+    ensures { λ r. ⌜ r ≡ getD (now (file .entry)) i 0 ⌝ }
+{
+    if i < file.len() { file[i] } else { 0 }
+}
+
+// Number i of a file: two bytes, low byte first.
+pub fn number_at(file: &[u8], i: u16) -> u16
     ensures { λ r. ⌜ r ≡ number-at (now (file .entry)) i ⌝ }
 {
-    file[2 * i] as u16 + 256 * file[2 * i + 1] as u16
+    let at = 2 * i as usize;
+    byte_at(file, at) as u16 + 256 * byte_at(file, at + 1) as u16
 }
 
 fn read_sizes(file: &[u8]) -> Result<Sizes, Refusal>
@@ -95,16 +102,15 @@ fn read_sizes(file: &[u8]) -> Result<Sizes, Refusal>
 }
 
 // The gates of a file: all left literals, then all right literals.
-fn read_gates(file: &[u8], count: usize) -> [Gate; 1024]
-    requires few { ⌜ count ≤ 1024 ⌝ }
-    requires long { ⌜ 6 + 4 * count ≤ length (now file) ⌝ }
+fn read_gates(file: &[u8], count: u16) -> [Gate; 1024]
+    requires { ⌜ count ≤ 1024 ⌝ }
     ensures { λ r. ⌜ take count r ≡ map (gate-at (now (file .entry)) count) (counting 0 count) ⌝ }
 {
     let mut gates = [BLANK; MOST_GATES];
     for g in 0..count {
         let left = number_at(file, 3 + g);
         let right = number_at(file, 3 + count + g);
-        gates[g] = Gate { left, right };
+        gates[g as usize] = Gate { left, right };
     }
     gates
 }
@@ -182,15 +188,14 @@ pub fn read(file: &[u8], width: u8) -> Result<Circuit, Refusal>
     ensures determined { λ r. ⌜ made r (λ c. Determined (netlist c)) ⌝ }
 {
     let sizes = read_sizes(file)?;
-    let count = sizes.gates as usize;
-    if file.len() != 6 + 4 * count {
+    if file.len() != 6 + 4 * sizes.gates as usize {
         return Err(Refusal::Length(file.len()));
     }
     let needed = 2 * sizes.registers + sizes.inputs;
     if width < needed {
         return Err(Refusal::Width(needed));
     }
-    let gates = read_gates(file, count);
+    let gates = read_gates(file, sizes.gates);
     check_wires(sizes, &gates)?;
     if init_touches(sizes, &gates) {
         return Err(Refusal::Start(sizes.gates - 1));

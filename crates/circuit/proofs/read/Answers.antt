@@ -10,7 +10,7 @@ pub returns-then-init-touches : need.returns-then-init-touches
 returns-then-init-touches c =
     record {
       reads = sym (refused (c .args .file .now) (c .in-Continue-sizes .sizes) (c .in-Continue-sizes .ensures tt) (c .args .width)
-          (omega (arith, c .if-file-count .left)) (omega (arith, c .if-width-needed .left))
+          (omega (arith, c .if-file-sizes .left)) (omega (arith, c .if-width-needed .left))
           (c .read-gates-gates .result) (c .read-gates-gates .ensures) (c .in-Continue-check-wires .ensures tt) (sym (c .if-init-touches .ensures tt)));
       sound = tt;
       determined = tt;
@@ -21,7 +21,7 @@ ghost-result c = (
   omega (arith, c .in-Continue-sizes .ensures tt .few-gates),
   (
     ∣ sound (c .args .file .now) (c .in-Continue-sizes .sizes) (c .in-Continue-sizes .ensures tt) (c .args .width)
-        (omega (arith, c .if-file-count .left)) (omega (arith, c .if-width-needed .left))
+        (omega (arith, c .if-file-sizes .left)) (omega (arith, c .if-width-needed .left))
         (c .read-gates-gates .result) (c .read-gates-gates .ensures) (c .in-Continue-check-wires .ensures tt) (sym (c .if-init-touches .ensures tt)) ∣₁,
     tt,
   ),
@@ -30,11 +30,11 @@ ghost-result c = (
 pub returns : need.returns
 returns c =
     let s = sound (c .args .file .now) (c .in-Continue-sizes .sizes) (c .in-Continue-sizes .ensures tt) (c .args .width)
-    (omega (arith, c .if-file-count .left)) (omega (arith, c .if-width-needed .left))
+    (omega (arith, c .if-file-sizes .left)) (omega (arith, c .if-width-needed .left))
     (c .read-gates-gates .result) (c .read-gates-gates .ensures) (c .in-Continue-check-wires .ensures tt) (sym (c .if-init-touches .ensures tt)) in
     record {
       reads = sym (accepted (c .args .file .now) (c .in-Continue-sizes .sizes) (c .in-Continue-sizes .ensures tt) (c .args .width)
-          (omega (arith, c .if-file-count .left)) (omega (arith, c .if-width-needed .left))
+          (omega (arith, c .if-file-sizes .left)) (omega (arith, c .if-width-needed .left))
           (c .read-gates-gates .result) (c .read-gates-gates .ensures) (c .in-Continue-check-wires .ensures tt) (sym (c .if-init-touches .ensures tt)));
       sound = s;
       determined = determined _ s;

@@ -22,7 +22,7 @@ loop-g-again c =
       length-set gs g x ∙ c .loop-g .inv .0,
       below-more _ _
           (λ k h. let ne : k ≢ g = omega arith in getD-set-other gs g k x blank ne ∙ c .loop-g .inv .1 k h)
-          (getD-set-same gs g x blank (omega (arith, c .loop-g .inv .0, c .pre .few, c .loop-g-test .taken))
+          (getD-set-same gs g x blank (omega (arith, c .loop-g .inv .0, c .pre, c .loop-g-test .taken))
           ∙ ap₂ pair (c .number-at-left .ensures) (c .number-at-right .ensures)),
     )
 
@@ -31,5 +31,5 @@ returns c =
     let gs = c .loop-g .gates in
     let n = c .args .count in
     fill-by-all (gate-at (c .args .file .now) n) (take n gs) n blank
-    (length-take-le n gs (omega (arith, c .loop-g .inv .0, c .pre .few)))
+    (length-take-le n gs (omega (arith, c .loop-g .inv .0, c .pre)))
     (λ k h. getD-take n gs k blank h ∙ c .loop-g .inv .1 k (omega (arith, c .loop-g-test .left)))

@@ -1,0 +1,118 @@
+// Jobs: the frame that holds a circuit file and two texts, and the report on it.
+ghost use mathlib.Core.Path.{_≡_};
+ghost use Rattle.std.specs.declared.option.Option.the-variants.{Some};
+ghost use Rattle.job.specs.Faults.{number-of, part-of, place-of};
+ghost use Rattle.job.specs.Frames.{frame, framed};
+ghost use Rattle.job.specs.Reports.{reported, settled, text};
+
+pub mod fault;
+pub mod frame;
+pub mod report;
+
+use circuit::number_at;
+use circuit::read;
+use fault::Fault;
+use fault::FaultFromRefusal;
+use frame::Frame;
+use report::Report;
+use std::fmt;
+
+// How many variables the program's store has.
+const WIDTH: u8 = 24;
+
+impl Fault {
+    pub fn number(self) -> u8
+        ensures { λ r. ⌜ r ≡ number-of self ⌝ }
+    {
+        match self {
+            Fault::Length(_) => 2,
+            Fault::Circuit(refusal) => refusal.number(),
+        }
+    }
+
+    pub fn part(self) -> u8
+        ensures { λ r. ⌜ r ≡ part-of self ⌝ }
+    {
+        match self {
+            Fault::Length(_) => 0,
+            Fault::Circuit(_) => 1,
+        }
+    }
+
+    pub fn place(self) -> usize
+        ensures { λ r. ⌜ r ≡ place-of self ⌝ }
+    {
+        match self {
+            Fault::Length(bytes) => bytes,
+            Fault::Circuit(refusal) => refusal.place(),
+        }
+    }
+}
+
+// Cuts a job into the circuit file, the assumption and the property.
+pub fn split(job: &[u8]) -> Result<Frame, Fault>
+    ensures { λ r. ⌜ framed r ≡ frame (now (job .entry)) ⌝ }
+{
+    let total = job.len();
+    if total < 10 {
+        return Err(Fault::Length(total));
+    }
+    let assumption = 10 + 4 * number_at(job, 4) as usize;
+    let property = assumption + number_at(job, 0) as usize;
+    if total != property + number_at(job, 1) as usize {
+        return Err(Fault::Length(total));
+    }
+    Ok(Frame {
+        circuit: &job[4..assumption],
+        assumption: &job[assumption..property],
+        property: &job[property..total],
+    })
+}
+
+fn read_job(job: &[u8]) -> Result<Report, Fault>
+    ensures { λ r. ⌜ settled r ≡ reported (now (job .entry)) ⌝ }
+{
+    let frame = split(job)?;
+    let circuit = read(frame.circuit, WIDTH)?;
+    Ok(Report::Read {
+        registers: circuit.registers(),
+        inputs: circuit.inputs(),
+        gates: circuit.gates().len(),
+    })
+}
+
+// What is to be said of a job.
+pub fn check(job: &[u8]) -> Report
+    ensures { λ r. ⌜ r ≡ reported (now (job .entry)) ⌝ }
+{
+    match read_job(job) {
+        Ok(report) => report,
+        Err(fault) => Report::Refused(fault),
+    }
+}
+
+pub impl fmt::Display for Report as ReportDisplay {
+    ghost shown = { λ r. Some (text r) };
+
+    fn fmt<W: fmt::Write>(&self, f: &mut fmt::Formatter<W>) -> fmt::Result {
+        match self {
+            Report::Read {
+                registers,
+                inputs,
+                gates,
+            } => write!(
+                f,
+                "registers {registers} inputs {inputs} gates {gates}\naccepted 0\n"
+            ),
+            Report::Refused(fault) => {
+                let number = fault.number();
+                let part = fault.part();
+                let place = fault.place();
+                write!(
+                    f,
+                    "refused {number} part {part} place {place}\naccepted 0\n"
+                )
+            }
+        }
+    }
+}
