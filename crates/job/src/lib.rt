@@ -17,6 +17,9 @@ use frame::Frame;
 use report::Report;
 use std::fmt;
 
+// The two lengths and the sizes.
+const SHORTEST: usize = 10;
+
 // How many variables the program's store has.
 const WIDTH: u8 = 24;
 
@@ -54,8 +57,8 @@ pub fn split(job: &[u8]) -> Result<Frame, Fault>
     ensures { λ r. ⌜ framed r ≡ frame (now (job .entry)) ⌝ }
 {
     let total = job.len();
-    if total < 10 {
-        return Err(Fault::Length(total));
+    if total < SHORTEST {
+        return Err(Fault::Length(job.len()));
     }
     let assumption = 10 + 4 * number_at(job, 4) as usize;
     let property = assumption + number_at(job, 0) as usize;

@@ -26,4 +26,4 @@ returns c =
     let from : 10 + 4 * c .number-at .result + c .number-at-2 .result ≡ 4 + circuit-length bs + assumption-length bs = omega arith in
     let third = take-rest bs (10 + 4 * c .number-at .result + c .number-at-2 .result) ∙ ap (λ i. drop i bs) from in
     ap (λ (p : Parts). Ok p) (λ i. record { circuit = first i; assumption = second i; property = third i })
-    ∙ sym (cond-false _ _ _ (le-ltb (length bs) 10 (c .if-total-lt10 .left)) ∙ cond-true _ _ _ (eq-eqb (length bs) (total bs) whole))
+    ∙ sym (cond-false _ _ _ (le-ltb (length bs) 10 (c .if-total-lt-SHORTEST .left)) ∙ cond-true _ _ _ (eq-eqb (length bs) (total bs) whole))

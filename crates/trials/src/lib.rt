@@ -1,0 +1,3 @@
+// Tests over the whole: examples in tables.
+#[cfg(test)]
+mod circuits;
