@@ -33,7 +33,12 @@ fn plain(heap: Global, sizes: [u16; 3], gates: u16) -> Result<Vec<u8>, AllocErro
 }
 
 // A file of the literals given.
-fn wired(heap: Global, registers: u16, inputs: u16, literals: &[u16]) -> Result<Vec<u8>, AllocError> {
+fn wired(
+    heap: Global,
+    registers: u16,
+    inputs: u16,
+    literals: &[u16],
+) -> Result<Vec<u8>, AllocError> {
     let mut file = Vec::new(heap);
     push(&mut file, registers)?;
     push(&mut file, inputs)?;
@@ -81,7 +86,6 @@ fn lengths_and_widths(rt: LibcRuntime) -> Result<(), Fail> {
 
 #[test]
 fn wires_and_start(rt: LibcRuntime) -> Result<(), Fail> {
-    let one = 1;
     // One register, one input, gates on lines 3 to 5: the left literals, then the right ones.
     let table: [([u16; 6], _); 9] = [
         ([4, 4, 2, 5, 2, 3], Ok((1, 1, 3))),
@@ -95,7 +99,7 @@ fn wires_and_start(rt: LibcRuntime) -> Result<(), Fail> {
         ([5, 2, 2, 0, 3, 8], Ok((1, 1, 3))),
     ];
     for (literals, told) in table {
-        let file = wired(rt.alloc(), one, 1, &literals)?;
+        let file = wired(rt.alloc(), 1, 1, &literals)?;
         check_eq(read_sizes(&file, 24), told)?;
     }
     Ok(())

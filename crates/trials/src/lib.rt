@@ -1,3 +1,5 @@
 // Tests over the whole: examples in tables.
 #[cfg(test)]
 mod circuits;
+#[cfg(test)]
+mod jobs;
