@@ -1,0 +1,5 @@
+mod Fields
+mod Tasks
+mod Twofold
+mod Replies
+mod Begun

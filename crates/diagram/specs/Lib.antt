@@ -1,0 +1,4 @@
+pub mod Plain
+pub mod Shows
+pub mod Asked
+pub mod Making

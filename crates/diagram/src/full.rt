@@ -1,0 +1,3 @@
+// No record is left.
+#[derive(Clone, Copy)]
+pub struct Full;

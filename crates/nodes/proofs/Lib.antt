@@ -1,0 +1,14 @@
+pub mod Pigeon
+pub mod Values
+pub mod Canon
+pub mod Extend
+pub mod Fixings
+pub mod Alike
+pub mod Build
+pub mod Props
+pub mod Halving
+pub mod Paid
+pub mod Laws
+pub mod Facts
+pub mod Reading
+pub mod Placing

@@ -1,0 +1,5 @@
+mod Bits
+mod Calls
+pub mod Lists
+mod Permute
+pub mod Rename

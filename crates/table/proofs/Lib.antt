@@ -1,0 +1,6 @@
+mod Bits
+mod Calls
+mod Lawful
+mod Made
+mod Sound
+mod Tables
