@@ -50,6 +50,9 @@ module _ (bs : List ℕ) (z : Sizes) (s : Sized bs z) (width : ℕ) (long : leng
     within : z .gates ≤ length gs
     within = omega (arith, length-take (z .gates) gs, ap length gates-are, length-map-counting (gate-at bs (z .gates)) 0 (z .gates))
 
+    pub counted : length (drawn z gs .gates) ≡ z .gates
+    counted = count-is z gs within
+
     drawn-is : drawn z gs ≡ says bs
     drawn-is = λ i. record {
       registers = s .registers-are i;
@@ -68,14 +71,14 @@ module _ (bs : List ℕ) (z : Sizes) (s : Sized bs z) (width : ℕ) (long : leng
         checked
         ∙ cond-false _ _ _ (le-ltb (first-miswired (drawn z gs)) (length (drawn z gs .gates)) (omega (arith, all-wired)))
         ∙ cond-true _ _ _ t
-        ∙ ap (λ k. Err (Start (k - 1))) (count-is z gs within)
+        ∙ ap (λ k. Err (Start (k - 1))) counted
 
     pub accepted : touching (drawn z gs) (init-line (drawn z gs)) ≡ false → reading width bs ≡ Ok (drawn z gs)
     accepted t = checked ∙ cond-false _ _ _ (le-ltb (first-miswired (drawn z gs)) (length (drawn z gs .gates)) (omega (arith, all-wired))) ∙ cond-false _ _ _ t
 
     pub sound : touching (drawn z gs) (init-line (drawn z gs)) ≡ false → Sound (drawn z gs)
     sound t =
-        let n = count-is z gs within in
+        let n = counted in
         let e = s .enough-gates in
         record {
           some-registers = s .some-registers;

@@ -221,6 +221,12 @@ impl Circuit {
         self.inputs
     }
 
+    pub fn gate_count(&self) -> u16
+        ensures { λ r. ⌜ r ≡ length (netlist (now (self .entry)) .gates) ⌝ }
+    {
+        self.count
+    }
+
     pub fn gates(&self) -> &[Gate]
         ensures { λ r. ⌜ now r ≡ netlist (now (self .entry)) .gates ⌝ }
     {

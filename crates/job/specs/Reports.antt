@@ -1,5 +1,6 @@
 -- What is said of a job, and how it is written.
-use mathlib.Core.List.{List, [], _∷_, _++_}
+use mathlib.Core.Path.{_≡_}
+use mathlib.Core.List.{List, _++_}
 use Prim.Native.Nat.{ℕ}
 use lib.Chars.{codes}
 use lib.ListN.{length}
@@ -9,24 +10,40 @@ use Rattle.std.specs.declared.result.Result.the-variants.{Ok, Err}
 use Rattle.circuit.specs.declared.refusal.Refusal.{Refusal}
 use Rattle.circuit.specs.Netlists.{Netlist}
 use Rattle.circuit.specs.Rules.{reading}
+use Rattle.claim.specs.declared.fault.Fault.{Fault as Misreading}
+use Rattle.claim.specs.Faults.{Read as Says, Refused as Misread}
+use Rattle.claim.specs.Grammar.{Tree}
+use Rattle.runs.specs.Models.{sizes}
 use Rattle.job.specs.declared.fault.Fault.{Fault}
-use Rattle.job.specs.declared.fault.Fault.the-variants.{Circuit}
+use Rattle.job.specs.declared.fault.Fault.the-variants.{Circuit, Assumption, Property}
 use Rattle.job.specs.declared.report.Report.{Report}
 use Rattle.job.specs.declared.report.Report.the-variants.{Read, Refused}
 use Rattle.job.specs.Faults.{number-of, part-of, place-of}
 use Rattle.job.specs.Frames.{Parts, frame}
 
-abbrev pub read-as : Result Netlist Refusal → Report
-read-as (Ok c) = Read (c .registers) (c .inputs) (length (c .gates))
-read-as (Err e) = Refused (Circuit e)
+-- what is said of the two texts of a job, whose circuit is c: the whole assumption comes first
+pub data Claimed (c : Netlist) (p : Parts) : Report → Type 0 where
+  bad-assumption : {f : Misreading} → Misread (p .assumption) (sizes c) f → Claimed c p (Refused (Assumption f))
+  bad-property : {h : Tree} {f : Misreading} → Says (p .assumption) (sizes c) h → Misread (p .property) (sizes c) f → Claimed c p (Refused (Property f))
+  both-read : {h q : Tree} → Says (p .assumption) (sizes c) h → Says (p .property) (sizes c) q → Claimed c p (Read (c .registers) (c .inputs) (length (c .gates)))
 
-abbrev pub opened : Result Parts Fault → Report
-opened (Ok p) = read-as (reading 24 (p .circuit))
-opened (Err e) = Refused e
+-- what is said of a job by what its circuit file reads as
+abbrev pub Opened : Parts → Result Netlist Refusal → Report → Type 0
+Opened p (Err e) r = r ≡ Refused (Circuit e)
+Opened p (Ok c) r = Claimed c p r
 
--- the report on the bytes of a job, for a store of 24 variables
-abbrev pub reported : List ℕ → Report
-reported bs = opened (frame bs)
+-- what is said of a job by its frame, for a store of 24 variables
+abbrev pub Framed : Result Parts Fault → Report → Type 0
+Framed (Err e) r = r ≡ Refused e
+Framed (Ok p) r = Opened p (reading 24 (p .circuit)) r
+
+-- the report on the bytes of a job
+abbrev pub Reports : List ℕ → Report → Type 0
+Reports bs r = Framed (frame bs) r
+
+-- no other report is right
+abbrev pub Only : List ℕ → Report → Type 0
+Only bs r = (r′ : Report) → Reports bs r′ → r′ ≡ r
 
 -- a fault is reported as a refusal
 abbrev pub settled : Result Report Fault → Report

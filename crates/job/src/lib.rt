@@ -1,16 +1,19 @@
 // Jobs: the frame that holds a circuit file and two texts, and the report on it.
 ghost use mathlib.Core.Path.{_≡_};
 ghost use Rattle.std.specs.declared.option.Option.the-variants.{Some};
+ghost use Rattle.circuit.specs.Reading.{netlist};
 ghost use Rattle.job.specs.Faults.{number-of, part-of, place-of};
 ghost use Rattle.job.specs.Frames.{frame, framed};
-ghost use Rattle.job.specs.Reports.{reported, settled, text};
+ghost use Rattle.runs.specs.Models.{sizes};
+ghost use Rattle.job.specs.Reports.{Reports, Only, settled, text};
 
 pub mod fault;
 pub mod frame;
 pub mod report;
 
+use circuit::circuit::Circuit;
 use circuit::number_at;
-use circuit::read;
+use claim::code::Sizes;
 use fault::Fault;
 use fault::FaultFromRefusal;
 use frame::Frame;
@@ -30,6 +33,8 @@ impl Fault {
         match self {
             Fault::Length(_) => 2,
             Fault::Circuit(refusal) => refusal.number(),
+            Fault::Assumption(misreading) => misreading.number(),
+            Fault::Property(misreading) => misreading.number(),
         }
     }
 
@@ -39,6 +44,8 @@ impl Fault {
         match self {
             Fault::Length(_) => 0,
             Fault::Circuit(_) => 1,
+            Fault::Assumption(_) => 2,
+            Fault::Property(_) => 3,
         }
     }
 
@@ -48,6 +55,8 @@ impl Fault {
         match self {
             Fault::Length(bytes) => bytes,
             Fault::Circuit(refusal) => refusal.place(),
+            Fault::Assumption(misreading) => misreading.place(),
+            Fault::Property(misreading) => misreading.place(),
         }
     }
 }
@@ -72,21 +81,40 @@ pub fn split(job: &[u8]) -> Result<Frame, Fault>
     })
 }
 
+// The sizes that a claim's names must keep to.
+fn sizes_of(circuit: &Circuit) -> Sizes
+    ensures { λ r. ⌜ r ≡ sizes (netlist (now (circuit .entry))) ⌝ }
+{
+    Sizes {
+        registers: circuit.registers() as u16,
+        inputs: circuit.inputs() as u16,
+        gates: circuit.gate_count(),
+    }
+}
+
 fn read_job(job: &[u8]) -> Result<Report, Fault>
-    ensures { λ r. ⌜ settled r ≡ reported (now (job .entry)) ⌝ }
+    ensures { λ r. ⌜ Reports (now (job .entry)) (settled r) ⌝ }
 {
     let frame = split(job)?;
-    let circuit = read(frame.circuit, WIDTH)?;
+    let circuit = circuit::read(frame.circuit, WIDTH)?;
+    let sizes = sizes_of(&circuit);
+    if let Err(misreading) = claim::read(frame.assumption, sizes) {
+        return Err(Fault::Assumption(misreading));
+    }
+    if let Err(misreading) = claim::read(frame.property, sizes) {
+        return Err(Fault::Property(misreading));
+    }
     Ok(Report::Read {
         registers: circuit.registers(),
         inputs: circuit.inputs(),
-        gates: circuit.gates().len(),
+        gates: circuit.gate_count(),
     })
 }
 
 // What is to be said of a job.
 pub fn check(job: &[u8]) -> Report
-    ensures { λ r. ⌜ r ≡ reported (now (job .entry)) ⌝ }
+    ensures right { λ r. ⌜ Reports (now (job .entry)) r ⌝ }
+    ensures only { λ r. ⌜ Only (now (job .entry)) r ⌝ }
 {
     match read_job(job) {
         Ok(report) => report,

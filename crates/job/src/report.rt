@@ -8,7 +8,7 @@ pub enum Report {
     Read {
         registers: u8,
         inputs: u8,
-        gates: usize,
+        gates: u16,
     },
     Refused(Fault),
 }

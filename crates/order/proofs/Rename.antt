@@ -32,7 +32,7 @@ module _ (p : ℕ → ℕ) (s : Shown) (o : Permutes (s .vars) p) where
   holds-as f g e = holds-like (renamed p s) f (above p (s .vars) g) (stands-above (s .vars) p o f g e) ∙ holds-above g
 
   -- a price under the order is a price below
-  price-is : (f : Fn) → price (renamed p s) f ≡ price s (below p (s .vars) f)
+  pub price-is : (f : Fn) → price (renamed p s) f ≡ price s (below p (s .vars) f)
   price-is f = ap (λ (h : Fn → Bool). s .tariff h (below p (s .vars) f)) (fun-ext holds-above)
 
   pub price-as : Lawful s → (f g : Fn) → Stands-for (s .vars) p f g → price (renamed p s) f ≡ price s g

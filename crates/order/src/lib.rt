@@ -34,12 +34,12 @@ pub fn check<S: Store>(store: &mut S, p: &[u8]) -> Result<(), Unfit>
 
 impl<S: Store> Layer<S> {
     // The store under the order p; under the order of its variables, where p is none.
-    pub fn new(store: S, p: &[u8]) -> Layer<S>
+    pub fn new(mut store: S, p: &[u8]) -> Layer<S>
         ensures shows { λ r. ⌜ ordered (take (r .order .count) (r .order .places)) (S·Store .shows (r .store)) ≡ ordered (now (p .entry)) (S·Store .shows store) ⌝ }
         ensures reorders { λ r. ⌜ Reorders (order-of (S·Store .shows store .vars) (now (p .entry))) (S·Store .shows store) (ordered (now (p .entry)) (S·Store .shows store)) ⌝ }
     {
-        let mut store = store;
-        let order = match Order::of(store.figures().variables, p) {
+        let n = store.figures().variables;
+        let order = match Order::of(n, p) {
             Some(order) => order,
             None => Order::empty(),
         };

@@ -13,14 +13,14 @@ use Rattle.store.specs.Fun.{Fn}
 use Rattle.store.specs.Meaning.{Shown, Lawful}
 use Rattle.store.specs.Calls.{Answers, Reply}
 use Rattle.table.specs.declared.Table.{Table}
-use Rattle.table.specs.Shows.{shown}
+use Rattle.table.specs.Shows.{showing}
 use Rattle.table.proofs.Lawful.{lawful-shown}
 
 abbrev pub shows : Table → Shown
-shows d = shown (d .n) (entries (d .list)) (room (d .list))
+shows d = showing (d .n) (d .list)
 
 pub lawful-table : (d : Table) → Lawful (shows d)
-lawful-table d = lawful-shown (d .n) (entries (d .list)) (room (d .list)) (d .few) (entries-fit (d .list)) (d .small) (d .sound)
+lawful-table d = lawful-shown (d .n) (entries (d .list)) (room (d .list)) (d .few) (entries-fit (d .list)) (d .small) (d .apart)
 
 module _ (s : Shown) (l : Lawful s) (held within : Bool) (f : Fn) where
   pub reply-number : held ≡ false → Reply s s held within f (Err Number)

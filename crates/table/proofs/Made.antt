@@ -136,13 +136,13 @@ module _ (d : Table) (m : Records Truths) (f : Fn) (mixed : (b : Bool) → Same 
   looked = subst (λ (t : Truths). Looked-up (entries (d .list)) (room (d .list)) t p (entries m)) is (h .0)
 
   pub sound-after : sound (d .n) (entries m) ≡ true
-  sound-after = sound-placed (d .n) (entries (d .list)) (room (d .list)) (d .few) (entries-fit (d .list)) (d .small) (d .sound) f mixed p (entries m) looked
+  sound-after = sound-placed (d .n) (entries (d .list)) (room (d .list)) (d .few) (entries-fit (d .list)) (d .small) (d .apart) f mixed p (entries m) looked
 
   pub narrow-after : Narrow p
-  narrow-after = narrow-placed (d .n) (entries (d .list)) (room (d .list)) (d .few) (entries-fit (d .list)) (d .small) (d .sound) f mixed p (entries m) looked
+  narrow-after = narrow-placed (d .n) (entries (d .list)) (room (d .list)) (d .few) (entries-fit (d .list)) (d .small) (d .apart) f mixed p (entries m) looked
 
   pub answers-after : (q : Placed) → p ≡ q → Answers (shows d) (shown (d .n) (entries m) (room m)) f (reply q)
   answers-after q e =
       subst (λ (a : Placed). Answers (shows d) (shown (d .n) (entries m) (room m)) f (reply a)) e
       (subst (λ (k : ℕ). Answers (shows d) (shown (d .n) (entries m) k) f (reply p)) (sym (h .1))
-      (placed-answers (d .n) (entries (d .list)) (room (d .list)) (d .few) (entries-fit (d .list)) (d .small) (d .sound) f mixed p (entries m) looked))
+      (placed-answers (d .n) (entries (d .list)) (room (d .list)) (d .few) (entries-fit (d .list)) (d .small) (d .apart) f mixed p (entries m) looked))

@@ -9,6 +9,8 @@ use Rattle.std.specs.declared.option.Option.the-variants.{Some, None}
 use Rattle.std.specs.declared.result.Result.{Result}
 use Rattle.std.specs.declared.result.Result.the-variants.{Ok, Err}
 use Rattle.std.specs.shelf.Maps.{nth}
+use Rattle.records.specs.declared.List.{List as Records}
+use Rattle.records.specs.Contents.{entries, room}
 use Rattle.std.specs.shelf.Text.{sameBytes}
 use Rattle.store.specs.declared.refusal.Unfit.{Unfit}
 use Rattle.store.specs.declared.refusal.Unfit.the-variants.{Store}
@@ -38,6 +40,10 @@ shown n xs capacity = record {
   top = 1;
   tariff = λ held f. cond (held f) 0 1;
 }
+
+-- with the tables in a list of records
+abbrev pub showing : ℕ → Records Truths → Shown
+showing n l = shown n (entries l) (room l)
 
 -- whether each table is that of its function, with the bits from 2^n on 0
 abbrev pub exact : ℕ → List Truths → Bool

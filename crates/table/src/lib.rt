@@ -6,7 +6,7 @@ ghost use Prim.Native.Nat.{_≤_};
 ghost use lib.ListN.{length};
 ghost use Rattle.records.specs.Contents.{entries, room};
 ghost use Rattle.store.specs.Meaning.{Fresh, Lawful};
-ghost use Rattle.table.specs.Shows.{shown, sound, suits, verdict};
+ghost use Rattle.table.specs.Shows.{shown, showing, sound, suits, verdict};
 
 mod asked;
 mod making;
@@ -28,7 +28,7 @@ pub struct Table<'a> {
     ghost some: { 1 ≤ n },
     ghost few: { n ≤ 10 },
     ghost small: { room list ≤ 65534 },
-    ghost sound: { sound n (entries list) ≡ true },
+    ghost apart: { sound n (entries list) ≡ true },
 }
 
 // Whether a table store of n variables can be made in the records.
@@ -45,9 +45,9 @@ pub fn check(n: u8, records: &[Truths]) -> Result<(), Unfit>
 impl<'a> Table<'a> {
     // An empty store of n variables in the records; of 1 variable and no records, where these do not suit.
     pub fn new(n: u8, records: &'a mut [Truths]) -> Table<'a>
-        ensures shows { λ r. ⌜ shown (r .n) (entries (r .list)) (room (r .list)) ≡ cond (suits n (length (now (records .entry)))) (shown n [] (length (now (records .entry)))) (shown 1 [] 0) ⌝ }
-        ensures fresh { λ r. ⌜ Fresh (shown (r .n) (entries (r .list)) (room (r .list))) ⌝ }
-        ensures lawful { λ r. ⌜ Lawful (shown (r .n) (entries (r .list)) (room (r .list))) ⌝ }
+        ensures shows { λ r. ⌜ showing (r .n) (r .list) ≡ cond (suits n (length (now (records .entry)))) (shown n [] (length (now (records .entry)))) (shown 1 [] 0) ⌝ }
+        ensures fresh { λ r. ⌜ Fresh (showing (r .n) (r .list)) ⌝ }
+        ensures lawful { λ r. ⌜ Lawful (showing (r .n) (r .list)) ⌝ }
     {
         if check(n, records).is_ok() {
             return Table {
@@ -63,7 +63,7 @@ impl<'a> Table<'a> {
 }
 
 pub impl Store for Table<'_> as TableStore {
-    ghost shows = { λ d. shown (d .n) (entries (d .list)) (room (d .list)) };
+    ghost shows = { λ d. showing (d .n) (d .list) };
 
     fn variable(&mut self, i: u8) -> Result<u16, Refusal> {
         if !self.has_variable(i) {

@@ -1,15 +1,13 @@
 // How a function is made: its table is worked out, and looked up or added.
 ghost use mathlib.Core.Path.{_≡_};
-ghost use mathlib.Core.Bool.{Bool};
 ghost use Prim.Native.Nat.{_+_, _*_, _<_};
 ghost use lib.Dec.{ltb};
 ghost use lib.ListN.{length};
-ghost use Rattle.std.specs.Options.{Cases as BySome};
-ghost use Rattle.records.specs.Contents.{entries, room};
-ghost use Rattle.store.specs.Fun.{fixed, Same};
+ghost use Rattle.records.specs.Contents.{entries};
+ghost use Rattle.store.specs.Fun.{fixed};
 ghost use Rattle.store.specs.Calls.{Answers};
-ghost use Rattle.table.specs.Asking.{asked, Ready};
-ghost use Rattle.table.specs.Shows.{shown, value};
+ghost use Rattle.table.specs.Asking.{asked, Constant, Ready};
+ghost use Rattle.table.specs.Shows.{showing, value};
 ghost use Rattle.table.specs.Tables.{truth, packed, within, table};
 use super::Table;
 use super::asked::Asked;
@@ -90,7 +88,7 @@ impl Table<'_> {
     // The constant that is asked for, if it is one.
     fn constant(&self, f: Asked) -> Option<bool>
         requires { ⌜ Ready (now self .n) f ⌝ }
-        ensures { λ r. ⌜ BySome r ((b : Bool) → Same (now (self .entry) .n) (asked (entries (now (self .entry) .list)) f) (λ _. b) → ⊥) (λ b. Same (now (self .entry) .n) (asked (entries (now (self .entry) .list)) f) (λ _. b)) ⌝ }
+        ensures { λ r. ⌜ Constant (now (self .entry) .n) (asked (entries (now (self .entry) .list)) f) r ⌝ }
     {
         let first = self.at(f, 0);
         for w in 1..1 << self.n {
@@ -104,7 +102,7 @@ impl Table<'_> {
     // Byte j of the table of what is asked for.
     fn byte(&self, f: Asked, j: usize) -> u8
         requires ready { ⌜ Ready (now self .n) f ⌝ }
-        requires within { ⌜ j < 128 ⌝ }
+        requires below { ⌜ j < 128 ⌝ }
         ensures { λ r. ⌜ r ≡ packed 8 (8 * j) (within (now (self .entry) .n) (asked (entries (now (self .entry) .list)) f)) ⌝ }
     {
         let mut byte = 0;
@@ -131,7 +129,7 @@ impl Table<'_> {
     // The number of what is asked for: a constant has its own, and a table is found or added.
     pub(super) fn make(&mut self, f: Asked) -> Result<u16, Refusal>
         requires { ⌜ Ready (now self .n) f ⌝ }
-        ensures { λ r. ⌜ Answers (shown (now (self .entry) .n) (entries (now (self .entry) .list)) (room (now (self .entry) .list))) (shown (now (self .exit) .n) (entries (now (self .exit) .list)) (room (now (self .exit) .list))) (asked (entries (now (self .entry) .list)) f) r ⌝ }
+        ensures { λ r. ⌜ Answers (showing (now (self .entry) .n) (now (self .entry) .list)) (showing (now (self .exit) .n) (now (self .exit) .list)) (asked (entries (now (self .entry) .list)) f) r ⌝ }
     {
         if let Some(t) = self.constant(f) {
             return Ok(t as u16);

@@ -14,8 +14,8 @@ pub returns : need.returns
 returns g c =
     let p = c .args .p .now in
     let s = g .S·Store .shows (c .args .store) in
-    let told = c .figures .ensures .told in
-    let same = c .figures .ensures .same in
+    let told = c .figures-n .ensures .told in
+    let same = c .figures-n .ensures .same in
     record {
       shows = elim (c .match-of .came) [
         | in-Some w ↦ ap₂ ordered (ap (λ o. take (o .count) (o .places)) (w .order-is) ∙ w .in-Some .ensures tt .1) same

@@ -11,7 +11,7 @@ use Rattle.table.proofs.Table.make.Needs as need
 pub returns-in-Some : need.returns-in-Some
 returns-in-Some c =
     let d = c .args .self .now in
-    made-constant (d .n) (entries (d .list)) (room (d .list)) (d .few) (entries-fit (d .list)) (d .small) (d .sound) (asked (entries (d .list)) (c .args .f))
+    made-constant (d .n) (entries (d .list)) (room (d .list)) (d .few) (entries-fit (d .list)) (d .small) (d .apart) (asked (entries (d .list)) (c .args .f))
     (c .in-Some .t) (c .in-Some .ensures tt)
 
 pub ghost-self : need.ghost-self

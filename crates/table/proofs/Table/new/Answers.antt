@@ -34,7 +34,7 @@ returns-then-is-ok c =
 pub ghost-result-2 : need.ghost-result-2
 ghost-result-2 c =
     let r = c .new-2 .ensures .room in
-    (omega arith, (omega arith, (omega (arith, r), (ap (sound 1) (c .new-2 .ensures .empty) ∙ sound-empty 1, tt))))
+    (omega arith, (omega arith, (omega (arith, r), (ap (sound _) (c .new-2 .ensures .empty) ∙ sound-empty _, tt))))
 
 pub returns : need.returns
 returns c =

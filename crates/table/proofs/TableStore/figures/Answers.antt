@@ -14,7 +14,7 @@ returns c =
     record {
       same = refl;
       told = record {
-        lawful = lawful-shown (d .n) (entries (d .list)) (room (d .list)) (d .few) (entries-fit (d .list)) (d .small) (d .sound);
+        lawful = lawful-shown (d .n) (entries (d .list)) (room (d .list)) (d .few) (entries-fit (d .list)) (d .small) (d .apart);
         variables = refl;
         used = c .len .ensures;
         capacity = c .capacity .ensures;

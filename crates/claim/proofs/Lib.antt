@@ -1,0 +1,13 @@
+mod Lexing
+mod Runs
+mod Prefixes
+mod Places
+mod Outcomes
+mod Tried
+mod Trees
+pub mod Exactly
+mod Numbers
+mod Steps
+mod Whole
+pub mod Stacks
+mod Evaluation

@@ -1,0 +1,11 @@
+pub mod Tokens
+pub mod Grammar
+pub mod Faults
+pub mod Exact
+pub mod Examples
+pub mod Result
+pub mod Truth
+pub mod Items
+pub mod Seen
+pub mod Machine
+pub mod Reading

@@ -1,0 +1,13 @@
+pub mod Some
+pub mod Least
+pub mod Counts
+pub mod Sets
+pub mod Verdicts
+pub mod Traces
+pub mod Numbers
+pub mod Composing
+pub mod Steps
+pub mod Files
+pub mod Texts
+pub mod Models
+pub mod Worked
