@@ -1,5 +1,6 @@
 // Job frames, and what is reported of them.
 use circuit::refusal::Refusal;
+use claim::fault::Fault as Misreading;
 use job::check as report_on;
 use job::fault::Fault;
 use job::report::Report;
@@ -49,7 +50,17 @@ fn frames() -> Result<(), Fail> {
     job[2] = 2;
     check_eq(report_on(&job), Report::Refused(Fault::Length(22)))?;
     job[0] = 2;
+    check_eq(
+        report_on(&job),
+        Report::Refused(Fault::Assumption(Misreading::Claim(1))),
+    )?;
+    job[19] = b' ';
     check_eq(report_on(&job), read)?;
+    job[21] = b'9';
+    check_eq(
+        report_on(&job),
+        Report::Refused(Fault::Property(Misreading::Name(0))),
+    )?;
     job[14] = 6;
     check_eq(
         report_on(&job),
