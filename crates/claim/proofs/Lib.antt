@@ -7,7 +7,7 @@ mod Tried
 mod Trees
 pub mod Exactly
 mod Numbers
-mod Steps
+pub mod Steps
 mod Whole
 pub mod Stacks
 mod Evaluation

@@ -1,0 +1,11 @@
+mod Spreads
+mod Keepings
+mod Readings
+mod Insides
+mod Bits
+mod Searches
+mod Writings
+mod Tracings
+mod Reaching
+mod Walking
+mod Handing

@@ -1,0 +1,13 @@
+use mathlib.Core.Path.{_≡_}
+use mathlib.Core.Bool.{false}
+use Prim.Native.Nat.{ℕ, _^_, _<_}
+use Rattle.making.specs.Making.{Means}
+use Rattle.runs.specs.Valuations.{set-fn}
+use Rattle.runs.specs.Models.{Model, system}
+use Rattle.runs.specs.Search.{bad, initial-in}
+use Rattle.engine.specs.Questions.{Readable}
+use Rattle.engine.proofs.finding.first_state.Given as given
+
+-- no smaller one was found
+abbrev pub Inv-loop-q : given.InvT-loop-q
+Inv-loop-q g l = (g .S·Store .shows (l .store) ≡ g .S·Store .shows (l .entry .store)) × ((m : Model) (i : ℕ) → Readable (g .S·Store .shows (l .entry .store)) m (l .parts) → Means (g .S·Store .shows (l .entry .store)) (l .set) (set-fn m i) → (x : ℕ) → x < l .q → initial-in (system m) (bad (system m) i) x ≡ false)

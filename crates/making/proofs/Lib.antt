@@ -1,0 +1,14 @@
+pub mod Steps
+pub mod Loops
+pub mod Placing
+pub mod Literals
+pub mod Circuits
+pub mod Gating
+pub mod Varying
+pub mod Stacking
+pub mod Walking
+pub mod Backs
+pub mod Starting
+pub mod Joining
+pub mod Bounds
+pub mod Lengths

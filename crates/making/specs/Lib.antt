@@ -1,0 +1,9 @@
+pub mod Models
+pub mod Making
+pub mod Pieces
+pub mod Loads
+pub mod Ends
+pub mod Stacks
+pub mod Promises
+pub mod Faults
+pub mod Laws

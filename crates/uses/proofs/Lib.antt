@@ -1,0 +1,7 @@
+mod Checks
+mod Texts
+mod Written
+mod Uses
+mod Promises
+mod Determined
+mod Possible

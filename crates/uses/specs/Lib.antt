@@ -1,0 +1,4 @@
+pub mod Calls
+pub mod Uses
+pub mod Promise
+pub mod Steps
