@@ -9,3 +9,7 @@ mod Tracings
 mod Reaching
 mod Walking
 mod Handing
+mod Meeting
+mod Steps
+mod Advances
+mod Loads

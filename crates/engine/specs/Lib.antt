@@ -1,2 +1,4 @@
 pub mod Keeping
 pub mod Questions
+pub mod Advancing
+pub mod Loading

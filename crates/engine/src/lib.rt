@@ -1,6 +1,10 @@
 // Sessions over any store.
+mod advance;
+mod described;
 mod finding;
+mod found;
 pub mod inner;
+mod load;
 pub mod path;
 pub mod questions;
 pub mod session;

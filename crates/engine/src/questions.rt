@@ -1,7 +1,8 @@
 // The calls of a session that change nothing, but for the trace.
 ghost use mathlib.Core.Path.{_≡_};
-ghost use mathlib.Core.List.{[]};
-ghost use Rattle.uses.specs.Calls.{empty, stand, ask, inside};
+ghost use mathlib.Core.List.{List, []};
+ghost use Rattle.uses.specs.Calls.{State, empty, stand, Event, ask, inside};
+ghost use Rattle.uses.specs.Promise.{Promise};
 ghost use Rattle.uses.specs.Uses.{Use};
 ghost use Rattle.engine.specs.Keeping.{world, Keeps, Next};
 use super::inner::Inner;
@@ -42,7 +43,9 @@ impl<S: Store> Session<S> {
         }
     }
 
+    // The verdict, and with it what any use that led here comes to.
     pub fn verdict(&mut self) -> Verdict
+        ensures promise { λ r. ⌜ ((h : List Event) (st : State) → Use h (stand st (world (S·Store .shows) (now (self .entry)) .store)) → Keeps st (world (S·Store .shows) (now (self .entry))) → Promise h st r) ⌝ }
         ensures next { λ r. ⌜ Next (world (S·Store .shows) (now (self .entry))) (ask r) (world (S·Store .shows) (now (self .exit))) ⌝ }
         ensures same { λ r. ⌜ now (self .exit) ≡ now (self .entry) ⌝ }
     {

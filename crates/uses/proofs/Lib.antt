@@ -2,6 +2,6 @@ mod Checks
 mod Texts
 mod Written
 mod Uses
-mod Promises
+pub mod Promises
 mod Determined
 mod Possible
