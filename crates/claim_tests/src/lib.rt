@@ -1,4 +1,5 @@
 // Texts of claims, each with what comes of it.
+#![tactic(auto)]
 #[cfg(test)]
 mod tests {
     use claim::code::*;

@@ -1,4 +1,5 @@
 // Sessions over any store.
+#![tactic(auto)]
 mod advance;
 mod described;
 mod finding;

@@ -1,4 +1,5 @@
 // The nodes of reduced ordered diagrams.
+#![tactic(auto)]
 ghost use Rattle.std.specs.Prelude.{◌≡◌};
 ghost use Rattle.nodes.specs.Graph.{child};
 

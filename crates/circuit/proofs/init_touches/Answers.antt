@@ -6,8 +6,8 @@ use Rattle.circuit.specs.Steps.{drawn}
 use Rattle.circuit.proofs.Steps.{count_is, below, wired_all, mark_is}
 use Rattle.circuit.proofs.init_touches.Goals as goal
 
-pub gate-touches-requires : goal.gate-touches-requires
-gate-touches-requires c =
+pub gate_touches-requires : goal.gate_touches-requires
+gate_touches-requires c =
     let b = below c.args.sizes c.args.gates.now c.requires.within c.requires.wired c.loop-g.g c.loop-g-test.true in
     record { left = omega (arith, b.0, c.loop-g.invariant.0); right = omega (arith, b.1, c.loop-g.invariant.0) }
 
@@ -17,13 +17,13 @@ loop-g-preserved c =
     let gs = c.args.gates.now in
     let marks = c.loop-g.marks in
     let g = c.loop-g.g in
-    let x = c.gate-touches.result in
+    let x = c.gate_touches.result in
     let h = c.loop-g-test.true in (
       length-set marks g x ∙ c.loop-g.invariant.0,
       below_more _ _
           (λ k l. let ne : k ≢ g = omega arith in get_or-set_other marks g k x false ne ∙ c.loop-g.invariant.1 k l)
           (get_or-set_same marks g x false (omega (arith, c.loop-g.invariant.0, c.requires.few, h))
-          ∙ c.gate-touches.ensures
+          ∙ c.gate_touches.ensures
           ∙ mark_is z gs c.requires.within (wired_all z gs c.requires.within c.requires.wired) marks g (omega (arith, h)) c.loop-g.invariant.1 h),
     )
 

@@ -13,12 +13,12 @@ pub loop-g-preserved : goal.loop-g-preserved
 loop-g-preserved c =
     let gs = c.loop-g.gates in
     let g = c.loop-g.g in
-    let x = pair c.number-at-left.result c.number-at-right.result in (
+    let x = pair c.number_at-left.result c.number_at-right.result in (
       length-set gs g x ∙ c.loop-g.invariant.0,
       below_more _ _
           (λ k h. let ne : k ≢ g = omega arith in get_or-set_other gs g k x blank ne ∙ c.loop-g.invariant.1 k h)
           (get_or-set_same gs g x blank (omega (arith, c.loop-g.invariant.0, c.requires, c.loop-g-test.true))
-          ∙ ap₂ pair c.number-at-left.ensures c.number-at-right.ensures),
+          ∙ ap₂ pair c.number_at-left.ensures c.number_at-right.ensures),
     )
 
 pub returns : goal.returns

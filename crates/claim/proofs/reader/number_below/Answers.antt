@@ -10,7 +10,7 @@ returns-then-n-most c = omega (arith, c.loop-digit.invariant.1, grows c.loop-dig
 pub loop-digit-preserved : goal.loop-digit-preserved
 loop-digit-preserved c = (
   omega arith,
-  ap (λ k. value_from (c.loop-digit.n * 10 + k) (drop (c.loop-digit.digit-index + 1) c.args.digits.now)) c.saturating-sub.ensures
+  ap (λ k. value_from (c.loop-digit.n * 10 + k) (drop (c.loop-digit.digit-index + 1) c.args.digits.now)) c.saturating_sub.ensures
       ∙ sym (at_drop_more (value_from c.loop-digit.n) c.args.digits.now c.loop-digit.digit-index 0 c.loop-digit-test.true)
       ∙ c.loop-digit.invariant.1,
 )

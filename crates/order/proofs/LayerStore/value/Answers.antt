@@ -3,8 +3,8 @@ use Rattle.order.specs.Renaming.{ordered}
 use Rattle.order.proofs.Calls.{value_ordered}
 use Rattle.order.proofs.LayerStore.value.Goals as goal
 
-pub valuation-below-requires : goal.valuation-below-requires
-valuation-below-requires g c = omega (arith, c.figures-n.ensures.told.lawful.few, c.figures-n.ensures.told.variables)
+pub valuation_below-requires : goal.valuation_below-requires
+valuation_below-requires g c = omega (arith, c.figures-n.ensures.told.lawful.few, c.figures-n.ensures.told.variables)
 
 pub returns : goal.returns
 returns g c =
@@ -14,5 +14,5 @@ returns g c =
     record {
       same = ap (ordered (take l.order.count l.order.places)) (c.value.ensures.same ∙ same);
       told = value_ordered (take l.order.count l.order.places) (g.S.Store.shows l.store) (g.S.Store.shows c.figures-n.new.self) (g.S.Store.shows c.value.new.self)
-          told.lawful same _ told.variables c.args.a c.args.w _ _ c.valuation-below.ensures c.value.ensures.told;
+          told.lawful same _ told.variables c.args.a c.args.w _ _ c.valuation_below.ensures c.value.ensures.told;
     }

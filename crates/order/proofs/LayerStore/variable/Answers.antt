@@ -7,4 +7,4 @@ returns g c =
     let l = c.args.self.now in
     let told = c.figures-n.ensures.told in
     variable_ordered (take l.order.count l.order.places) (g.S.Store.shows l.store) (g.S.Store.shows c.figures-n.new.self) (g.S.Store.shows c.variable.new.self)
-    told.lawful c.figures-n.ensures.same _ told.variables c.args.i _ _ c.variable-below.ensures c.variable.ensures
+    told.lawful c.figures-n.ensures.same _ told.variables c.args.i _ _ c.variable_below.ensures c.variable.ensures

@@ -9,7 +9,7 @@ truth-requires-in-Cofactor c =
     let k = c.in-Cofactor in
     let d = c.args.self.now in
     let ready = subst (Ready d.n) k.is c.requires.ready in
-    omega (arith, c.with-bit.ensures, fixed_lt 10 k.i k.t c.args.w (omega (arith, ready, d.few)) c.requires.low)
+    omega (arith, c.with_bit.ensures, fixed_lt 10 k.i k.t c.args.w (omega (arith, ready, d.few)) c.requires.low)
 
 pub returns-in-Variable : goal.returns-in-Variable
 returns-in-Variable c =

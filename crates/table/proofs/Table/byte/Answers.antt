@@ -22,13 +22,13 @@ added c =
 pub loop-k-init : goal.loop-k-init
 loop-k-init c = let d = c.args.self.now in sym (packed_none (8 * c.args.j + 8) (within d.n (asked (entries d.list) c.args.f)))
 
-pub overflow-mul-byte : goal.overflow-mul-byte
-overflow-mul-byte c =
+pub overflow_mul-byte : goal.overflow_mul-byte
+overflow_mul-byte c =
     let d = c.args.self.now in
     omega (arith, c.loop-k.invariant, packed_byte c.args.j c.loop-k.k (within d.n (asked (entries d.list) c.args.f)) c.loop-k-test.true)
 
-pub overflow-add-byte : goal.overflow-add-byte
-overflow-add-byte c =
+pub overflow_add-byte : goal.overflow_add-byte
+overflow_add-byte c =
     let d = c.args.self.now in
     omega (arith, c.loop-k.invariant, bool_low c.if-w-self.truth, packed_byte c.args.j c.loop-k.k (within d.n (asked (entries d.list) c.args.f)) c.loop-k-test.true)
 

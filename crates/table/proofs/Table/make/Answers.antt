@@ -12,45 +12,45 @@ returns-in-Some c =
     made_constant d.n (entries d.list) (room d.list) d.few (entries_fit d.list) d.small d.apart (asked (entries d.list) c.args.f)
     c.in-Some.t c.in-Some.ensures
 
-pub invariant-of-self : goal.invariant-of-self
-invariant-of-self c =
+pub invariant_of-self : goal.invariant_of-self
+invariant_of-self c =
     let d = c.args.self.now in
-    let r = c.find-or-add in (
+    let r = c.find_or_add in (
       d.some,
       (
         d.few,
         (
           omega (arith, d.small, r.ensures.1),
-          (sound_after d r.new.self (asked (entries d.list) c.args.f) c.in-default.ensures c.table-table.result c.table-table.ensures r.result r.ensures, tt),
+          (sound_after d r.new.self (asked (entries d.list) c.args.f) c.in_default.ensures c.table-table.result c.table-table.ensures r.result r.ensures, tt),
         ),
       ),
     )
 
-pub overflow-cast-result-in-Found : goal.overflow-cast-result-in-Found
-overflow-cast-result-in-Found c =
+pub overflow_cast-result-in-Found : goal.overflow_cast-result-in-Found
+overflow_cast-result-in-Found c =
     let d = c.args.self.now in
-    let r = c.find-or-add in
-    let low = narrow_after d r.new.self (asked (entries d.list) c.args.f) c.in-default.ensures c.table-table.result c.table-table.ensures r.result r.ensures in
+    let r = c.find_or_add in
+    let low = narrow_after d r.new.self (asked (entries d.list) c.args.f) c.in_default.ensures c.table-table.result c.table-table.ensures r.result r.ensures in
     ⊎_elim (λ e. omega (arith, subst Narrow e low)) (λ e. omega (arith, subst Narrow e low)) c.in-Found.is
 
-pub overflow-add-result : goal.overflow-add-result
-overflow-add-result c =
+pub overflow_add-result : goal.overflow_add-result
+overflow_add-result c =
     let d = c.args.self.now in
-    let r = c.find-or-add in
-    let low = narrow_after d r.new.self (asked (entries d.list) c.args.f) c.in-default.ensures c.table-table.result c.table-table.ensures r.result r.ensures in
+    let r = c.find_or_add in
+    let low = narrow_after d r.new.self (asked (entries d.list) c.args.f) c.in_default.ensures c.table-table.result c.table-table.ensures r.result r.ensures in
     ⊎_elim (λ e. omega (arith, subst Narrow e low)) (λ e. omega (arith, subst Narrow e low)) c.in-Found.is
 
 pub returns-in-Full : goal.returns-in-Full
 returns-in-Full c =
     let d = c.args.self.now in
-    let r = c.find-or-add in
-    answers_after d r.new.self (asked (entries d.list) c.args.f) c.in-default.ensures c.table-table.result c.table-table.ensures r.result r.ensures
+    let r = c.find_or_add in
+    answers_after d r.new.self (asked (entries d.list) c.args.f) c.in_default.ensures c.table-table.result c.table-table.ensures r.result r.ensures
     Full c.in-Full.is
 
 pub returns-in-Found : goal.returns-in-Found
 returns-in-Found c =
     let d = c.args.self.now in
-    let r = c.find-or-add in
+    let r = c.find_or_add in
     let k = c.in-Found.k in
-    let made = answers_after d r.new.self (asked (entries d.list) c.args.f) c.in-default.ensures c.table-table.result c.table-table.ensures r.result r.ensures in
+    let made = answers_after d r.new.self (asked (entries d.list) c.args.f) c.in_default.ensures c.table-table.result c.table-table.ensures r.result r.ensures in
     ⊎_elim (made (Found k)) (made (Added k)) c.in-Found.is

@@ -6,18 +6,18 @@ use Rattle.table.proofs.Sound.{sound_empty}
 use Rattle.table.proofs.Lawful.{fresh_shown, lawful_empty, suits_tells, verdict_ok}
 use Rattle.table.proofs.Table.new.Goals as goal
 
-pub invariant-of-result : goal.invariant-of-result
-invariant-of-result c =
+pub invariant_of-result : goal.invariant_of-result
+invariant_of-result c =
     let n = c.args.n in
-    let e = verdict_ok (suits n (length c.args.records.now)) true (c.if-is-ok.ensures.value ∙ ap is_ok c.check.ensures) in
+    let e = verdict_ok (suits n (length c.args.records.now)) true (c.if-is_ok.ensures.value ∙ ap is_ok c.check.ensures) in
     let t = suits_tells n (length c.args.records.now) e in
     (t.0, (t.1, (omega (arith, t.2, c.new.ensures.room), (ap (sound n) c.new.ensures.empty ∙ sound_empty n, tt))))
 
-pub returns-then-is-ok : goal.returns-then-is-ok
-returns-then-is-ok c =
+pub returns-then-is_ok : goal.returns-then-is_ok
+returns-then-is_ok c =
     let n = c.args.n in
     let k = length c.args.records.now in
-    let e = verdict_ok (suits n k) true (c.if-is-ok.ensures.value ∙ ap is_ok c.check.ensures) in
+    let e = verdict_ok (suits n k) true (c.if-is_ok.ensures.value ∙ ap is_ok c.check.ensures) in
     let t = suits_tells n k e in
     let made = ap₂ (shown n) c.new.ensures.empty c.new.ensures.room in
     record {
@@ -26,8 +26,8 @@ returns-then-is-ok c =
       lawful = subst Lawful (sym made) (lawful_empty n k t.1 t.2);
     }
 
-pub invariant-of-result-2 : goal.invariant-of-result-2
-invariant-of-result-2 c =
+pub invariant_of-result-2 : goal.invariant_of-result-2
+invariant_of-result-2 c =
     let r = c.new-2.ensures.room in
     (omega arith, (omega arith, (omega (arith, r), (ap (sound _) c.new-2.ensures.empty ∙ sound_empty _, tt))))
 
@@ -35,7 +35,7 @@ pub returns : goal.returns
 returns c =
     let n = c.args.n in
     let k = length c.args.records.now in
-    let e = verdict_ok (suits n k) false (c.if-is-ok.ensures.value ∙ ap is_ok c.check.ensures) in
+    let e = verdict_ok (suits n k) false (c.if-is_ok.ensures.value ∙ ap is_ok c.check.ensures) in
     let made = ap₂ (shown 1) c.new-2.ensures.empty c.new-2.ensures.room in
     record {
       shows = made ∙ sym (cond-false _ (shown n [] k) (shown 1 [] 0) e);

@@ -4,8 +4,8 @@ use Rattle.records.proofs.Contents.{entries_fit}
 use Rattle.table.proofs.Lawful.{lawful_shown}
 use Rattle.table.proofs.TableStore.figures.Goals as goal
 
-pub overflow-cast-result : goal.overflow-cast-result
-overflow-cast-result c = omega (arith, c.len.ensures, entries_fit c.args.self.now.list, c.args.self.now.small)
+pub overflow_cast-result : goal.overflow_cast-result
+overflow_cast-result c = omega (arith, c.len.ensures, entries_fit c.args.self.now.list, c.args.self.now.small)
 
 pub returns : goal.returns
 returns c =

@@ -8,8 +8,8 @@ use Rattle.table.proofs.making.with_bit.Goals as goal
 cleared : (c : goal.Else-t) → bit c.args.i c.args.w ≡ true
 cleared c = bit_shift c.args.i c.args.w ∙ beq_false _ _ c.if-w-i.false ∙ ap not c.if-t.false
 
-pub overflow-sub-result : goal.overflow-sub-result
-overflow-sub-result c = omega (arith, one_shl c.args.i 32 (omega (arith, c.requires.narrow)), lowered c.args.i c.args.w (cleared c))
+pub overflow_sub-result : goal.overflow_sub-result
+overflow_sub-result c = omega (arith, one_shl c.args.i 32 (omega (arith, c.requires.narrow)), lowered c.args.i c.args.w (cleared c))
 
 pub returns-then-w-i : goal.returns-then-w-i
 returns-then-w-i c =

@@ -6,7 +6,7 @@ use Rattle.claim.proofs.reader.Reader.pass.Goals as goal
 pub returns : goal.returns
 returns c =
     let h = c.requires.0.inner c.requires.1 in
-    let x = c.next-token-self.ensures in
+    let x = c.next_token-self.ensures in
     let inside : c.args.self.now.ahead.place < length c.args.self.now.text.now = omega arith in
     record {
       text = refl;

@@ -15,7 +15,7 @@ copied n i xs p o a b h =
     ap (λ k. take k xs) e ∙ h ∙ take_all i p b
 
 pub loop-i-init : goal.loop-i-init
-loop-i-init c = (omega (arith, long c.args.n c.args.p.now c.if-not-is-order.ensures), refl, refl)
+loop-i-init c = (omega (arith, long c.args.n c.args.p.now c.if-not-is_order.ensures), refl, refl)
 
 pub bounds-places-i : goal.bounds-places-i
 bounds-places-i c = omega (arith, c.loop-i.invariant.0)
@@ -31,13 +31,13 @@ loop-i-preserved c =
           ∙ sym (take_more p i 0 c.loop-i-test.true),
     )
 
-pub invariant-of-result : goal.invariant-of-result
-invariant-of-result c =
-    let e = copied c.args.n c.loop-i.i c.loop-i.places c.args.p.now c.if-not-is-order.ensures c.loop-i.auto.i-end c.loop-i-test.false c.loop-i.invariant.2 in
-    (c.requires, (ap (is_order c.args.n) e ∙ sym c.if-not-is-order.ensures, tt))
+pub invariant_of-result : goal.invariant_of-result
+invariant_of-result c =
+    let e = copied c.args.n c.loop-i.i c.loop-i.places c.args.p.now c.if-not-is_order.ensures c.loop-i.auto.i-end c.loop-i-test.false c.loop-i.invariant.2 in
+    (c.requires, (ap (is_order c.args.n) e ∙ sym c.if-not-is_order.ensures, tt))
 
 pub returns : goal.returns
 returns c = (
-  sym c.if-not-is-order.ensures,
-  copied c.args.n c.loop-i.i c.loop-i.places c.args.p.now c.if-not-is-order.ensures c.loop-i.auto.i-end c.loop-i-test.false c.loop-i.invariant.2,
+  sym c.if-not-is_order.ensures,
+  copied c.args.n c.loop-i.i c.loop-i.places c.args.p.now c.if-not-is_order.ensures c.loop-i.auto.i-end c.loop-i-test.false c.loop-i.invariant.2,
 )

@@ -6,10 +6,10 @@ use Rattle.order.specs.Renaming.{placed}
 use Rattle.order.proofs.Lists.{permutes_order}
 use Rattle.order.proofs.order.Order.valuation_below.Goals as goal
 
-pub with-bit-v-requires : goal.with-bit-v-requires
-with-bit-v-requires c =
+pub with_bit-v-requires : goal.with_bit-v-requires
+with_bit-v-requires c =
     let o = c.args.self.now in
-    omega (arith, c.variable-below.ensures, c.requires, (permutes_order c.args.n (take o.count o.places)).within c.loop-i.i c.loop-i-test.true)
+    omega (arith, c.variable_below.ensures, c.requires, (permutes_order c.args.n (take o.count o.places)).within c.loop-i.i c.loop-i-test.true)
 
 pub loop-i-preserved : goal.loop-i-preserved
 loop-i-preserved c =
@@ -18,5 +18,5 @@ loop-i-preserved c =
     let i = c.loop-i.i in
     let w = c.args.w in
     let b = eqb (w / 2 ^ i % 2) 1 in
-    c.with-bit-v.ensures ∙ ap (λ (k : ℕ). fixed k b c.loop-i.v) c.variable-below.ensures
+    c.with_bit-v.ensures ∙ ap (λ (k : ℕ). fixed k b c.loop-i.v) c.variable_below.ensures
     ∙ ap₂ (λ (t : Bool) (v : ℕ). fixed (p i) t v) (sym (bit_shift i w)) c.loop-i.invariant ∙ ap (λ (k : ℕ). placed p k w) (sym (add-one i))
