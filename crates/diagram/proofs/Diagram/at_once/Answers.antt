@@ -16,8 +16,8 @@ pub returns-in-Both : goal.returns-in-Both
 returns-in-Both c =
     let d = c.args.self.now in
     let is = c.in-Both.is in
-    let r = c.at-once.result in
-    subst (λ (k : Task). Settled d k r) (sym is) (settled_both d c.in-Both.op c.in-Both.a c.in-Both.b r (subst (Posed (showing d)) is c.requires) c.at-once.ensures)
+    let r = c.at_once.result in
+    subst (λ (k : Task). Settled d k r) (sym is) (settled_both d c.in-Both.op c.in-Both.a c.in-Both.b r (subst (Posed (showing d)) is c.requires) c.at_once.ensures)
 
 pub returns-then-i-top : goal.returns-then-i-top
 returns-then-i-top c =

@@ -5,8 +5,8 @@ use Rattle.diagram.proofs.Remembering.{blank_right}
 use Rattle.diagram.proofs.Begun.{suits_bounds, begun, begun_fresh, begun_lawful}
 use Rattle.diagram.proofs.Diagram.empty.Goals as goal
 
-pub invariant-of-result : goal.invariant-of-result
-invariant-of-result c =
+pub invariant_of-result : goal.invariant_of-result
+invariant_of-result c =
     let p = c.new.ensures in
     let b = suits_bounds c.args.n _ c.requires in
     (b.0, (b.1, (omega (arith, p.room, b.2), (∣ subst (Sound c.args.n) (sym p.empty) (sound_none c.args.n) ∣₁, (∣ blank_right c.args.n _ _ _ (search rules) ∣₁, tt)))))

@@ -7,12 +7,12 @@ use Rattle.diagram.proofs.Remembering.{blank_right}
 use Rattle.diagram.proofs.Fields.{sound_of}
 use Rattle.diagram.proofs.Diagram.finish.Goals as goal
 
-pub invariant-of-self : goal.invariant-of-self
-invariant-of-self c =
+pub invariant_of-self : goal.invariant_of-self
+invariant_of-self c =
     let d = c.args.self.now in
     let p = c.truncate.ensures in
     let s = subst (Sound d.n) (sym p.entries) (front_sound d.n _ (listed d) (take_ext _ (listed d)) (sound_of d)) in
     (d.some, (d.wide, (omega (arith, p.room, d.small), (∣ s ∣₁, (∣ blank_right d.n _ _ _ (search rules) ∣₁, tt)))))
 
-pub overflow-sub-result : goal.overflow-sub-result
-overflow-sub-result c = omega (arith, entries_fit c.truncate.new.self, c.used.ensures, c.capacity.ensures)
+pub overflow_sub-result : goal.overflow_sub-result
+overflow_sub-result c = omega (arith, entries_fit c.truncate.new.self, c.used.ensures, c.capacity.ensures)

@@ -15,13 +15,13 @@ returns-then-low-high c =
       outcome = join_same d.n (listed d) (sound_of d) c.args.variable c.args.low c.args.high c.requires.below c.requires.held c.requires.under c.if-low-high.true;
     }
 
-pub invariant-of-self : goal.invariant-of-self
-invariant-of-self c =
+pub invariant_of-self : goal.invariant_of-self
+invariant_of-self c =
     let d = c.args.self.now in
-    let p = c.find-or-add.ensures in
+    let p = c.find_or_add.ensures in
     let s = placed_sound d.n (listed d) (capacity d) (sound_of d) c.args.variable c.args.low c.args.high c.requires.below c.requires.held c.requires.under c.if-low-high.false
-    c.find-or-add.result _ p.0 in
-    let right = grown_right d.n (listed d) _ (capacity d) _ d.memo (sound_of d) (placed_ext (listed d) (capacity d) _ c.find-or-add.result _ p.0) (right_of d) in
+    c.find_or_add.result _ p.0 in
+    let right = grown_right d.n (listed d) _ (capacity d) _ d.memo (sound_of d) (placed_ext (listed d) (capacity d) _ c.find_or_add.result _ p.0) (right_of d) in
     (d.some, (d.wide, (omega (arith, p.1, d.small), (∣ s ∣₁, (∣ right ∣₁, tt)))))
 
 -- a place that was found is one of the nodes'
@@ -31,11 +31,11 @@ below c =
     found_below d.n (listed d) (capacity d) (sound_of d) c.args.variable c.args.low c.args.high c.requires.below c.requires.held c.requires.under c.if-low-high.false
     c.in-Found.i _ c.in-Found.ensures.0
 
-pub overflow-cast-result : goal.overflow-cast-result
-overflow-cast-result c = let d = c.args.self.now in omega (arith, below c, few_of d, d.small)
+pub overflow_cast-result : goal.overflow_cast-result
+overflow_cast-result c = let d = c.args.self.now in omega (arith, below c, few_of d, d.small)
 
-pub overflow-add-result : goal.overflow-add-result
-overflow-add-result c = let d = c.args.self.now in omega (arith, below c, few_of d, d.small)
+pub overflow_add-result : goal.overflow_add-result
+overflow_add-result c = let d = c.args.self.now in omega (arith, below c, few_of d, d.small)
 
 pub returns-in-Found : goal.returns-in-Found
 returns-in-Found c =

@@ -5,8 +5,8 @@ use Rattle.diagram.specs.Shows.{listed}
 use Rattle.diagram.proofs.Fields.{read_of}
 use Rattle.diagram.proofs.Diagram.truth.Goals as goal
 
-pub overflow-shr-w : goal.overflow-shr-w
-overflow-shr-w c =
+pub overflow_shr-w : goal.overflow_shr-w
+overflow_shr-w c =
     let d = c.args.self.now in
     let r = read_of d c.loop-at.at c.loop-at.invariant.0 c.loop-at-test.true c.node-node.result c.node-node.ensures in
     omega (arith, r.below, d.wide)

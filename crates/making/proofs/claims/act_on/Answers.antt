@@ -23,17 +23,17 @@ returns-in-Name g c = record {
   high = omega arith;
   acts = λ p l fs gs k n d o.
       let m = alone (netlist c.args.circuit.now) in
-      on_name m (valid_alone _ c.args.circuit.now.sound) p l c.args.stack.now c.args.high c.in-Name.sort c.in-Name.i c.number-at.result c.args.numbers.now
-      (c.number-at.ensures ∙ ap (λ x. get_or c.args.numbers.now x 0) c.line-of.ensures) n d c.requires (subst (λ (x : Act). Acts m x fs k gs) c.in-Name.is o);
+      on_name m (valid_alone _ c.args.circuit.now.sound) p l c.args.stack.now c.args.high c.in-Name.sort c.in-Name.i c.number_at.result c.args.numbers.now
+      (c.number_at.ensures ∙ ap (λ x. get_or c.args.numbers.now x 0) c.line_of.ensures) n d c.requires (subst (λ (x : Act). Acts m x fs k gs) c.in-Name.is o);
 }
 
 pub returns-in-err-a : goal.returns-in-err-a
 returns-in-err-a g c = record {
-  high = IfOk-from_err c.from-residual.result _ c.from-residual.ensures.0;
+  high = IfOk-from_err c.from_residual.result _ c.from_residual.ensures.0;
   acts = λ p l fs gs k n d o.
       let m = alone (netlist c.args.circuit.now) in
-      broke c.from-residual.result c.in-err-a.field-0.0 c.from-residual.ensures.1
-      (ends_refused (on_not m p l c.args.stack.now c.args.high c.saturating-sub-top.result _ c.saturating-sub-top.ensures d c.requires
+      broke c.from_residual.result c.in-err-a.field-0.0 c.from_residual.ensures.1
+      (ends_refused (on_not m p l c.args.stack.now c.args.high c.saturating_sub-top.result _ c.saturating_sub-top.ensures d c.requires
       (subst (λ (x : Act). Acts m x fs k gs) c.in-Not.is o) c.in-err-a.ensures));
 }
 
@@ -42,7 +42,7 @@ returns-in-ok-a g c = record {
   high = omega arith;
   acts = λ p l fs gs k n d o.
       let m = alone (netlist c.args.circuit.now) in
-      let r = runs_of (on_not m p l c.args.stack.now c.args.high c.saturating-sub-top.result _ c.saturating-sub-top.ensures d c.requires
+      let r = runs_of (on_not m p l c.args.stack.now c.args.high c.saturating_sub-top.result _ c.saturating_sub-top.ensures d c.requires
       (subst (λ (x : Act). Acts m x fs k gs) c.in-Not.is o) c.in-ok-a.ensures) in
       made r.0 r.1;
 }
@@ -53,17 +53,17 @@ returns-in-err-a-2 g c = record {
   acts = λ p l fs gs k n d o.
       let m = alone (netlist c.args.circuit.now) in
       broke c.from-residual-in-err-a-2.result c.in-err-a-2.field-0.0 c.from-residual-in-err-a-2.ensures.1
-      (ends_refused (on_and m p l c.args.stack.now c.args.high c.saturating-sub-below.result c.saturating-sub-top.result _
-      c.saturating-sub-below.ensures c.saturating-sub-top.ensures d c.requires (subst (λ (x : Act). Acts m x fs k gs) c.in-And.is o) c.in-err-a-2.ensures));
+      (ends_refused (on_and m p l c.args.stack.now c.args.high c.saturating_sub-below.result c.saturating_sub-top.result _
+      c.saturating_sub-below.ensures c.saturating_sub-top.ensures d c.requires (subst (λ (x : Act). Acts m x fs k gs) c.in-And.is o) c.in-err-a-2.ensures));
 }
 
 pub returns-in-ok-a-2 : goal.returns-in-ok-a-2
 returns-in-ok-a-2 g c = record {
-  high = omega (arith, c.saturating-sub-top.ensures);
+  high = omega (arith, c.saturating_sub-top.ensures);
   acts = λ p l fs gs k n d o.
       let m = alone (netlist c.args.circuit.now) in
-      let r = runs_of (on_and m p l c.args.stack.now c.args.high c.saturating-sub-below.result c.saturating-sub-top.result _
-      c.saturating-sub-below.ensures c.saturating-sub-top.ensures d c.requires (subst (λ (x : Act). Acts m x fs k gs) c.in-And.is o) c.in-ok-a-2.ensures) in
+      let r = runs_of (on_and m p l c.args.stack.now c.args.high c.saturating_sub-below.result c.saturating_sub-top.result _
+      c.saturating_sub-below.ensures c.saturating_sub-top.ensures d c.requires (subst (λ (x : Act). Acts m x fs k gs) c.in-And.is o) c.in-ok-a-2.ensures) in
       made r.0 r.1;
 }
 
@@ -73,16 +73,16 @@ returns-in-err-a-3 g c = record {
   acts = λ p l fs gs k n d o.
       let m = alone (netlist c.args.circuit.now) in
       broke c.from-residual-in-err-a-3.result c.in-err-a-3.field-0.0 c.from-residual-in-err-a-3.ensures.1
-      (ends_refused (on_or m p l c.args.stack.now c.args.high c.saturating-sub-below.result c.saturating-sub-top.result _
-      c.saturating-sub-below.ensures c.saturating-sub-top.ensures d c.requires (subst (λ (x : Act). Acts m x fs k gs) c.in-Or.is o) c.in-err-a-3.ensures));
+      (ends_refused (on_or m p l c.args.stack.now c.args.high c.saturating_sub-below.result c.saturating_sub-top.result _
+      c.saturating_sub-below.ensures c.saturating_sub-top.ensures d c.requires (subst (λ (x : Act). Acts m x fs k gs) c.in-Or.is o) c.in-err-a-3.ensures));
 }
 
 pub returns-in-ok-a-3 : goal.returns-in-ok-a-3
 returns-in-ok-a-3 g c = record {
-  high = omega (arith, c.saturating-sub-top.ensures);
+  high = omega (arith, c.saturating_sub-top.ensures);
   acts = λ p l fs gs k n d o.
       let m = alone (netlist c.args.circuit.now) in
-      let r = runs_of (on_or m p l c.args.stack.now c.args.high c.saturating-sub-below.result c.saturating-sub-top.result _
-      c.saturating-sub-below.ensures c.saturating-sub-top.ensures d c.requires (subst (λ (x : Act). Acts m x fs k gs) c.in-Or.is o) c.in-ok-a-3.ensures) in
+      let r = runs_of (on_or m p l c.args.stack.now c.args.high c.saturating_sub-below.result c.saturating_sub-top.result _
+      c.saturating_sub-below.ensures c.saturating_sub-top.ensures d c.requires (subst (λ (x : Act). Acts m x fs k gs) c.in-Or.is o) c.in-ok-a-3.ensures) in
       made r.0 r.1;
 }

@@ -21,15 +21,15 @@ loop-code-init g c = (
   λ t e k l n. going_start (alone (netlist c.args.circuit.now)) c.args.part (g.S.Store.shows c.args.store.now) _ c.args.codes.now t e k l,
 )
 
-pub returns-in-err-high : goal.returns-in-err-high
-returns-in-err-high g c t e k l n =
+pub returns-in_err-high : goal.returns-in_err-high
+returns-in_err-high g c t e k l n =
     let i = c.loop-code.code-index in
     let cs = c.args.codes.now in
     let m = alone (netlist c.args.circuit.now) in
     let p = c.args.part in
     let s = g.S.Store.shows c.args.store.now in
     let x = g.S.Store.shows c.loop-code.store in
-    let u = g.S.Store.shows c.act-on.new.store in
+    let u = g.S.Store.shows c.act_on.new.store in
     let st = c.loop-code.stack in
     let hi = c.loop-code.high in
     let all = operators_list m p t in
@@ -37,15 +37,15 @@ returns-in-err-high g c t e k l n =
     let lt : i < length cs = c.loop-code-test.true in
     let v = c.loop-code.invariant.2 t e k l n in
     let v' = subst (λ i. Going m p s x st hi i all end) (drop-cons cs i _ lt) v in
-    broke c.from-residual.result c.in-err-high.field-0.0 c.from-residual.ensures.1
-    (going_stop m p s x u st c.act-on.new.stack hi _ (drop (suc i) cs) all end v' c.act-on.result c.place-at.ensures
-    (λ q l fs gs k d a. c.act-on.ensures.acts q l fs gs k (numbered_kept c.args.numbers.now (line_fn m) (lines m.circuit) (runs_grown v.runs) n) d a)
-    c.in-err-high.was)
+    broke c.from_residual.result c.in_err-high.field-0.0 c.from_residual.ensures.1
+    (going_stop m p s x u st c.act_on.new.stack hi _ (drop (suc i) cs) all end v' c.act_on.result c.place_at.ensures
+    (λ q l fs gs k d a. c.act_on.ensures.acts q l fs gs k (numbered_kept c.args.numbers.now (line_fn m) (lines m.circuit) (runs_grown v.runs) n) d a)
+    c.in_err-high.was)
 
 pub loop-code-preserved : goal.loop-code-preserved
 loop-code-preserved g c = (
-  omega (arith, c.act-on.auto.stack, c.loop-code.invariant.0),
-  omega (arith, c.loop-code.invariant.1, placed_made (λ h. h ≤ c.loop-code.high + 1) _ _ c.act-on.result c.place-at.ensures c.in-ok-high.was c.act-on.ensures.high),
+  omega (arith, c.act_on.auto.stack, c.loop-code.invariant.0),
+  omega (arith, c.loop-code.invariant.1, placed_made (λ h. h ≤ c.loop-code.high + 1) _ _ c.act_on.result c.place_at.ensures c.in_ok-high.was c.act_on.ensures.high),
   λ t e k l n.
       let i = c.loop-code.code-index in
       let cs = c.args.codes.now in
@@ -53,7 +53,7 @@ loop-code-preserved g c = (
       let p = c.args.part in
       let s = g.S.Store.shows c.args.store.now in
       let x = g.S.Store.shows c.loop-code.store in
-      let u = g.S.Store.shows c.act-on.new.store in
+      let u = g.S.Store.shows c.act_on.new.store in
       let st = c.loop-code.stack in
       let hi = c.loop-code.high in
       let all = operators_list m p t in
@@ -61,10 +61,10 @@ loop-code-preserved g c = (
       let lt : i < length cs = c.loop-code-test.true in
       let v = c.loop-code.invariant.2 t e k l n in
       let v' = subst (λ i. Going m p s x st hi i all end) (drop-cons cs i _ lt) v in
-      subst (λ i. Going m p s u c.act-on.new.stack c.in-ok-high.high (drop i cs) all end) (sym (add-one i))
-      (going_next m p s x u st c.act-on.new.stack hi _ (drop (suc i) cs) all end v' c.act-on.result c.place-at.ensures
-      (λ q l fs gs k d a. c.act-on.ensures.acts q l fs gs k (numbered_kept c.args.numbers.now (line_fn m) (lines m.circuit) (runs_grown v.runs) n) d a)
-      c.in-ok-high.was),
+      subst (λ i. Going m p s u c.act_on.new.stack c.in_ok-high.high (drop i cs) all end) (sym (add-one i))
+      (going_next m p s x u st c.act_on.new.stack hi _ (drop (suc i) cs) all end v' c.act_on.result c.place_at.ensures
+      (λ q l fs gs k d a. c.act_on.ensures.acts q l fs gs k (numbered_kept c.args.numbers.now (line_fn m) (lines m.circuit) (runs_grown v.runs) n) d a)
+      c.in_ok-high.was),
 )
 
 pub returns : goal.returns

@@ -16,8 +16,8 @@ use Rattle.making.proofs.gates.make_gates.Goals as goal
 pub loop-g-init : goal.loop-g-init
 loop-g-init g c h = gates_none (alone (netlist c.args.circuit.now)) (valid_alone _ c.args.circuit.now.sound) _ _ h
 
-pub overflow-cast-g : goal.overflow-cast-g
-overflow-cast-g g c =
+pub overflow_cast-g : goal.overflow_cast-g
+overflow_cast-g g c =
     let n = netlist c.args.circuit.now in
     omega (arith, c.loop-g-test.true, ap length c.gates-gates.ensures, (sound_out n c.args.circuit.now.sound).few_gates)
 
@@ -33,8 +33,8 @@ conjunction-requires g c =
       right = subst (λ x. x.right / 2 < length c.loop-g.numbers) (sym e) (omega (arith, w.1, c.requires, c.loop-g.auto.numbers));
     }
 
-pub returns-in-err-a : goal.returns-in-err-a
-returns-in-err-a g c h =
+pub returns-in_err-a : goal.returns-in_err-a
+returns-in_err-a g c h =
     let n = netlist c.args.circuit.now in
     let m = alone n in
     let ok = valid_alone n c.args.circuit.now.sound in
@@ -45,9 +45,9 @@ returns-in-err-a g c h =
     let u = g.S.Store.shows c.conjunction.new.store in
     let r = c.loop-g.invariant h in
     let q = gate_ends m ok s t u c.loop-g.numbers k lt r c.gates-gates.result.now c.conjunction.result c.gates-gates.ensures c.conjunction.ensures in
-    broke c.from-residual.result c.in-err-a.field-0.0 c.from-residual.ensures.1
+    broke c.from_residual.result c.in_err-a.field-0.0 c.from_residual.ensures.1
     (ends_upto (λ i. at 1 i (gate_list (line_fn m) (gate n i))) (suc k) (length n.gates) lt
-    (ends_after r.0 (placed_err 1 k c.conjunction.result c.place-at.ensures (lies_at 1 k _) q c.in-err-a.was)))
+    (ends_after r.0 (placed_err 1 k c.conjunction.result c.place_at.ensures (lies_at 1 k _) q c.in_err-a.was)))
 
 pub loop-g-preserved : goal.loop-g-preserved
 loop-g-preserved g c h =
@@ -61,10 +61,10 @@ loop-g-preserved g c h =
     let u = g.S.Store.shows c.conjunction.new.store in
     let r = c.loop-g.invariant h in
     let q = gate_ends m ok s t u c.loop-g.numbers k lt r c.gates-gates.result.now c.conjunction.result c.gates-gates.ensures c.conjunction.ensures in
-    let b = placed_ok 1 k c.conjunction.result c.place-at.ensures (lies_at 1 k _) q c.in-ok-a.was in
+    let b = placed_ok 1 k c.conjunction.result c.place_at.ensures (lies_at 1 k _) q c.in_ok-a.was in
     let e : gate_line n k ≡ 1 + c.registers.result + c.inputs.result + k = omega (arith, c.registers.ensures, c.inputs.ensures) in
-    subst (λ i. Sofar m ok s u (set c.loop-g.numbers i c.in-ok-a.a) (k + 1)) e
-    (gate_more m ok s t u c.loop-g.numbers k lt r c.in-ok-a.a b (omega (arith, c.requires, c.loop-g.auto.numbers)))
+    subst (λ i. Sofar m ok s u (set c.loop-g.numbers i c.in_ok-a.a) (k + 1)) e
+    (gate_more m ok s t u c.loop-g.numbers k lt r c.in_ok-a.a b (omega (arith, c.requires, c.loop-g.auto.numbers)))
 
 pub returns : goal.returns
 returns g c h =

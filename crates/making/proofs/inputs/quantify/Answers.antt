@@ -10,17 +10,17 @@ use Rattle.making.proofs.inputs.quantify.Goals as goal
 pub loop-j-init : goal.loop-j-init
 loop-j-init g c p q f ma li = (ended, ma)
 
-pub returns-in-err-f : goal.returns-in-err-f
-returns-in-err-f g c p q f ma li =
+pub returns-in_err-f : goal.returns-in_err-f
+returns-in_err-f g c p q f ma li =
     let k = c.loop-j.j in
     let x = c.args.first in
     let r = c.loop-j.invariant p q f ma li in
     let w = runs_grown r.0 in
     let lt : k < c.args.m = c.loop-j-test.true in
     let in-range : x + k < (g.S.Store.shows c.loop-j.store).vars = subst (λ n. x + k < n) (sym w.vars) (omega (arith, li)) in
-    broke c.from-residual.result c.in-err-f.field-0.0 c.from-residual.ensures.1
+    broke c.from_residual.result c.in_err-f.field-0.0 c.from_residual.ensures.1
     (ends_upto (λ j. at p q (halves_list (x + j) (quantified x f j))) (suc k) c.args.m lt
-    (ends_after r.0 (c.in-err-f.ensures p q (quantified x f k) r.1 in-range)))
+    (ends_after r.0 (c.in_err-f.ensures p q (quantified x f k) r.1 in-range)))
 
 pub loop-j-preserved : goal.loop-j-preserved
 loop-j-preserved g c p q f ma li =
@@ -32,8 +32,8 @@ loop-j-preserved g c p q f ma li =
     let s = g.S.Store.shows c.args.store.now in
     let u = g.S.Store.shows c.halves.new.store in
     let in-range : x + k < (g.S.Store.shows c.loop-j.store).vars = subst (λ n. x + k < n) (sym w.vars) (omega (arith, li)) in
-    subst (λ n. Runs s (quantified_list p q x f n) u × Means u c.in-ok-f.f (quantified x f n)) (sym (add-one k))
-    (runs_of (ends_after r.0 (c.in-ok-f.ensures p q (quantified x f k) r.1 in-range)))
+    subst (λ n. Runs s (quantified_list p q x f n) u × Means u c.in_ok-f.f (quantified x f n)) (sym (add-one k))
+    (runs_of (ends_after r.0 (c.in_ok-f.ensures p q (quantified x f k) r.1 in-range)))
 
 pub returns : goal.returns
 returns g c p q f ma li =

@@ -15,16 +15,12 @@ returns-in-Some c =
 pub invariant_of-self : goal.invariant_of-self
 invariant_of-self c =
     let d = c.args.self.now in
-    let r = c.find_or_add in (
-      d.some,
-      (
-        d.few,
-        (
-          omega (arith, d.small, r.ensures.1),
-          (sound_after d r.new.self (asked (entries d.list) c.args.f) c.in_default.ensures c.table-table.result c.table-table.ensures r.result r.ensures, tt),
-        ),
-      ),
-    )
+    let r = c.find_or_add in record {
+      some = d.some;
+      few = d.few;
+      small = omega (arith, d.small, r.ensures.1);
+      apart = sound_after d r.new.self (asked (entries d.list) c.args.f) c.in_default.ensures c.table-table.result c.table-table.ensures r.result r.ensures;
+    }
 
 pub overflow_cast-result-in-Found : goal.overflow_cast-result-in-Found
 overflow_cast-result-in-Found c =

@@ -11,7 +11,12 @@ invariant_of-result c =
     let n = c.args.n in
     let e = verdict_ok (suits n (length c.args.records.now)) true (c.if-is_ok.ensures.value ∙ ap is_ok c.check.ensures) in
     let t = suits_tells n (length c.args.records.now) e in
-    (t.0, (t.1, (omega (arith, t.2, c.new.ensures.room), (ap (sound n) c.new.ensures.empty ∙ sound_empty n, tt))))
+    record {
+      some = t.0;
+      few = t.1;
+      small = omega (arith, t.2, c.new.ensures.room);
+      apart = ap (sound n) c.new.ensures.empty ∙ sound_empty n;
+    }
 
 pub returns-then-is_ok : goal.returns-then-is_ok
 returns-then-is_ok c =
@@ -29,7 +34,12 @@ returns-then-is_ok c =
 pub invariant_of-result-2 : goal.invariant_of-result-2
 invariant_of-result-2 c =
     let r = c.new-2.ensures.room in
-    (omega arith, (omega arith, (omega (arith, r), (ap (sound _) c.new-2.ensures.empty ∙ sound_empty _, tt))))
+    record {
+      some = omega arith;
+      few = omega arith;
+      small = omega (arith, r);
+      apart = ap (sound _) c.new-2.ensures.empty ∙ sound_empty _;
+    }
 
 pub returns : goal.returns
 returns c =

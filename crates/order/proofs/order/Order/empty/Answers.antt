@@ -4,4 +4,7 @@ use Rattle.order.proofs.order.Order.empty.Goals as goal
 
 pub invariant_of-result : goal.invariant_of-result
 unfolding is_order
-invariant_of-result c = (omega arith, (refl, tt))
+invariant_of-result c = record {
+  few = omega arith;
+  once = refl;
+}

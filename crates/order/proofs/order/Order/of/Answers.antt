@@ -34,7 +34,10 @@ loop-i-preserved c =
 pub invariant_of-result : goal.invariant_of-result
 invariant_of-result c =
     let e = copied c.args.n c.loop-i.i c.loop-i.places c.args.p.now c.if-not-is_order.ensures c.loop-i.auto.i-end c.loop-i-test.false c.loop-i.invariant.2 in
-    (c.requires, (ap (is_order c.args.n) e ∙ sym c.if-not-is_order.ensures, tt))
+    record {
+      few = c.requires;
+      once = ap (is_order c.args.n) e ∙ sym c.if-not-is_order.ensures;
+    }
 
 pub returns : goal.returns
 returns c = (
