@@ -27,62 +27,62 @@ returns-in-Name g c = record {
       (c.number_at.ensures ∙ ap (λ x. get_or c.args.numbers.now x 0) c.line_of.ensures) n d c.requires (subst (λ (x : Act). Acts m x fs k gs) c.in-Name.is o);
 }
 
-pub returns-in-err-a : goal.returns-in-err-a
-returns-in-err-a g c = record {
+pub returns-in_err-a-in-Not : goal.returns-in_err-a-in-Not
+returns-in_err-a-in-Not g c = record {
   high = IfOk-from_err c.from_residual.result _ c.from_residual.ensures.0;
   acts = λ p l fs gs k n d o.
       let m = alone (netlist c.args.circuit.now) in
-      broke c.from_residual.result c.in-err-a.field-0.0 c.from_residual.ensures.1
+      broke c.from_residual.result c.in_err-a-in-Not.field-0.0 c.from_residual.ensures.1
       (ends_refused (on_not m p l c.args.stack.now c.args.high c.saturating_sub-top.result _ c.saturating_sub-top.ensures d c.requires
-      (subst (λ (x : Act). Acts m x fs k gs) c.in-Not.is o) c.in-err-a.ensures));
+      (subst (λ (x : Act). Acts m x fs k gs) c.in-Not.is o) c.in_err-a-in-Not.ensures));
 }
 
-pub returns-in-ok-a : goal.returns-in-ok-a
-returns-in-ok-a g c = record {
+pub returns-in_ok-a-in-Not : goal.returns-in_ok-a-in-Not
+returns-in_ok-a-in-Not g c = record {
   high = omega arith;
   acts = λ p l fs gs k n d o.
       let m = alone (netlist c.args.circuit.now) in
       let r = runs_of (on_not m p l c.args.stack.now c.args.high c.saturating_sub-top.result _ c.saturating_sub-top.ensures d c.requires
-      (subst (λ (x : Act). Acts m x fs k gs) c.in-Not.is o) c.in-ok-a.ensures) in
+      (subst (λ (x : Act). Acts m x fs k gs) c.in-Not.is o) c.in_ok-a-in-Not.ensures) in
       made r.0 r.1;
 }
 
-pub returns-in-err-a-2 : goal.returns-in-err-a-2
-returns-in-err-a-2 g c = record {
-  high = IfOk-from_err c.from-residual-in-err-a-2.result _ c.from-residual-in-err-a-2.ensures.0;
+pub returns-in_err-a-in-And : goal.returns-in_err-a-in-And
+returns-in_err-a-in-And g c = record {
+  high = IfOk-from_err c.from_residual-in_err-a-in-And.result _ c.from_residual-in_err-a-in-And.ensures.0;
   acts = λ p l fs gs k n d o.
       let m = alone (netlist c.args.circuit.now) in
-      broke c.from-residual-in-err-a-2.result c.in-err-a-2.field-0.0 c.from-residual-in-err-a-2.ensures.1
+      broke c.from_residual-in_err-a-in-And.result c.in_err-a-in-And.field-0.0 c.from_residual-in_err-a-in-And.ensures.1
       (ends_refused (on_and m p l c.args.stack.now c.args.high c.saturating_sub-below.result c.saturating_sub-top.result _
-      c.saturating_sub-below.ensures c.saturating_sub-top.ensures d c.requires (subst (λ (x : Act). Acts m x fs k gs) c.in-And.is o) c.in-err-a-2.ensures));
+      c.saturating_sub-below.ensures c.saturating_sub-top.ensures d c.requires (subst (λ (x : Act). Acts m x fs k gs) c.in-And.is o) c.in_err-a-in-And.ensures));
 }
 
-pub returns-in-ok-a-2 : goal.returns-in-ok-a-2
-returns-in-ok-a-2 g c = record {
+pub returns-in_ok-a-in-And : goal.returns-in_ok-a-in-And
+returns-in_ok-a-in-And g c = record {
   high = omega (arith, c.saturating_sub-top.ensures);
   acts = λ p l fs gs k n d o.
       let m = alone (netlist c.args.circuit.now) in
       let r = runs_of (on_and m p l c.args.stack.now c.args.high c.saturating_sub-below.result c.saturating_sub-top.result _
-      c.saturating_sub-below.ensures c.saturating_sub-top.ensures d c.requires (subst (λ (x : Act). Acts m x fs k gs) c.in-And.is o) c.in-ok-a-2.ensures) in
+      c.saturating_sub-below.ensures c.saturating_sub-top.ensures d c.requires (subst (λ (x : Act). Acts m x fs k gs) c.in-And.is o) c.in_ok-a-in-And.ensures) in
       made r.0 r.1;
 }
 
-pub returns-in-err-a-3 : goal.returns-in-err-a-3
-returns-in-err-a-3 g c = record {
-  high = IfOk-from_err c.from-residual-in-err-a-3.result _ c.from-residual-in-err-a-3.ensures.0;
+pub returns-in_err-a-in-Or : goal.returns-in_err-a-in-Or
+returns-in_err-a-in-Or g c = record {
+  high = IfOk-from_err c.from_residual-in_err-a-in-Or.result _ c.from_residual-in_err-a-in-Or.ensures.0;
   acts = λ p l fs gs k n d o.
       let m = alone (netlist c.args.circuit.now) in
-      broke c.from-residual-in-err-a-3.result c.in-err-a-3.field-0.0 c.from-residual-in-err-a-3.ensures.1
+      broke c.from_residual-in_err-a-in-Or.result c.in_err-a-in-Or.field-0.0 c.from_residual-in_err-a-in-Or.ensures.1
       (ends_refused (on_or m p l c.args.stack.now c.args.high c.saturating_sub-below.result c.saturating_sub-top.result _
-      c.saturating_sub-below.ensures c.saturating_sub-top.ensures d c.requires (subst (λ (x : Act). Acts m x fs k gs) c.in-Or.is o) c.in-err-a-3.ensures));
+      c.saturating_sub-below.ensures c.saturating_sub-top.ensures d c.requires (subst (λ (x : Act). Acts m x fs k gs) c.in-Or.is o) c.in_err-a-in-Or.ensures));
 }
 
-pub returns-in-ok-a-3 : goal.returns-in-ok-a-3
-returns-in-ok-a-3 g c = record {
+pub returns-in_ok-a-in-Or : goal.returns-in_ok-a-in-Or
+returns-in_ok-a-in-Or g c = record {
   high = omega (arith, c.saturating_sub-top.ensures);
   acts = λ p l fs gs k n d o.
       let m = alone (netlist c.args.circuit.now) in
       let r = runs_of (on_or m p l c.args.stack.now c.args.high c.saturating_sub-below.result c.saturating_sub-top.result _
-      c.saturating_sub-below.ensures c.saturating_sub-top.ensures d c.requires (subst (λ (x : Act). Acts m x fs k gs) c.in-Or.is o) c.in-ok-a-3.ensures) in
+      c.saturating_sub-below.ensures c.saturating_sub-top.ensures d c.requires (subst (λ (x : Act). Acts m x fs k gs) c.in-Or.is o) c.in_ok-a-in-Or.ensures) in
       made r.0 r.1;
 }

@@ -35,7 +35,7 @@ negations-requires-2 g c =
 pub invariant_of-parts : goal.invariant_of-parts
 invariant_of-parts g c =
     let d = sound_out (netlist c.args.circuit.now) c.args.circuit.now.sound in
-    (omega (arith, c.registers-n.ensures, d.few_registers), (omega (arith, c.inputs-m.ensures, d.few_inputs), tt))
+    record { registers = omega (arith, c.registers-n.ensures, d.few_registers); inputs = omega (arith, c.inputs-m.ensures, d.few_inputs) }
 
 pub returns-in_err-set : goal.returns-in_err-set
 returns-in_err-set g c p l h q w ln cs mh mq =
