@@ -17,16 +17,16 @@ pub enum Fault {
 impl From<Unframed> for Fault {
     ghost from_gives = { λ e r. r ≡ of_frame e };
 
-    fn from(refusal: Unframed) -> Fault {
-        Fault::Frame(refusal)
+    fn from(unframed: Unframed) -> Fault {
+        Fault::Frame(unframed)
     }
 }
 
 impl From<Refusal> for Fault {
     ghost from_gives = { λ e r. r ≡ of_call e };
 
-    fn from(refusal: Refusal) -> Fault {
-        Fault::Call(refusal)
+    fn from(call: Refusal) -> Fault {
+        Fault::Call(call)
     }
 }
 

@@ -64,7 +64,13 @@ invariant_of-self t c =
     let m = joined c.args.self.now c.args.task c.requires c.in_default.ensures c.peak-variable.result c.peak-variable.ensures c.half-off.result c.half-on.result c.half-off.ensures c.half-on.ensures
     c.make.new.self c.in_ok-low.low c.in_ok-low.ensures c.make-2.new.self c.in_ok-high.high c.in_ok-high.ensures
     e r c.in_ok-number.ensures in
-    (e.some, (e.wide, (e.small, (e.sound, (∣ remembered c.args.self.now e c.args.task c.in_ok-number.number c.remember.new.self c.requires m c.remember.ensures ∣₁, tt)))))
+    record {
+      some = e.some;
+      wide = e.wide;
+      small = e.small;
+      sound = e.sound;
+      remembered = ∣ remembered c.args.self.now e c.args.task c.in_ok-number.number c.remember.new.self c.requires m c.remember.ensures ∣₁;
+    }
 
 pub returns : goal.returns
 returns t c =

@@ -9,7 +9,13 @@ pub invariant_of-result : goal.invariant_of-result
 invariant_of-result c =
     let p = c.new.ensures in
     let b = suits_bounds c.args.n _ c.requires in
-    (b.0, (b.1, (omega (arith, p.room, b.2), (∣ subst (Sound c.args.n) (sym p.empty) (sound_none c.args.n) ∣₁, (∣ blank_right c.args.n _ _ _ (search rules) ∣₁, tt)))))
+    record {
+      some = b.0;
+      wide = b.1;
+      small = omega (arith, p.room, b.2);
+      sound = ∣ subst (Sound c.args.n) (sym p.empty) (sound_none c.args.n) ∣₁;
+      remembered = ∣ blank_right c.args.n _ _ _ (search rules) ∣₁;
+    }
 
 pub returns : goal.returns
 returns c =

@@ -12,7 +12,13 @@ invariant_of-self c =
     let d = c.args.self.now in
     let p = c.truncate.ensures in
     let s = subst (Sound d.n) (sym p.entries) (front_sound d.n _ (listed d) (take_ext _ (listed d)) (sound_of d)) in
-    (d.some, (d.wide, (omega (arith, p.room, d.small), (∣ s ∣₁, (∣ blank_right d.n _ _ _ (search rules) ∣₁, tt)))))
+    record {
+      some = d.some;
+      wide = d.wide;
+      small = omega (arith, p.room, d.small);
+      sound = ∣ s ∣₁;
+      remembered = ∣ blank_right d.n _ _ _ (search rules) ∣₁;
+    }
 
 pub overflow_sub-result : goal.overflow_sub-result
 overflow_sub-result c = omega (arith, entries_fit c.truncate.new.self, c.used.ensures, c.capacity.ensures)

@@ -22,7 +22,13 @@ invariant_of-self c =
     let s = placed_sound d.n (listed d) (capacity d) (sound_of d) c.args.variable c.args.low c.args.high c.requires.below c.requires.held c.requires.under c.if-low-high.false
     c.find_or_add.result _ p.0 in
     let right = grown_right d.n (listed d) _ (capacity d) _ d.memo (sound_of d) (placed_ext (listed d) (capacity d) _ c.find_or_add.result _ p.0) (right_of d) in
-    (d.some, (d.wide, (omega (arith, p.1, d.small), (∣ s ∣₁, (∣ right ∣₁, tt)))))
+    record {
+      some = d.some;
+      wide = d.wide;
+      small = omega (arith, p.1, d.small);
+      sound = ∣ s ∣₁;
+      remembered = ∣ right ∣₁;
+    }
 
 -- a place that was found is one of the nodes'
 below : (c : goal.In-Found) → c.in-Found.i < length (listed c.args.self.now)
