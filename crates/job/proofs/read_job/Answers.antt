@@ -15,27 +15,27 @@ parts f = record { circuit = f.circuit.now; assumption = f.assumption.now; prope
 
 pub returns-in-Err : goal.returns-in-Err
 returns-in-Err c =
-    let p = parts c.in-ok-frame.frame in
-    let k = c.in-ok-circuit.circuit in
-    by_claims c.args.job.now p (netlist k) _ c.in-ok-frame.ensures c.in-ok-circuit.ensures.reads
-    (bad_assumption (subst (λ (z : Sizes). Refused p.assumption z c.in-Err.misreading) c.sizes-of-sizes.ensures c.in-Err.ensures.answer))
+    let p = parts c.in_ok-frame.frame in
+    let k = c.in_ok-circuit.circuit in
+    by_claims c.args.job.now p (netlist k) _ c.in_ok-frame.ensures c.in_ok-circuit.ensures.reads
+    (bad_assumption (subst (λ (z : Sizes). Refused p.assumption z c.in-Err.misreading) c.sizes_of-sizes.ensures c.in-Err.ensures.answer))
 
 pub returns-in-Err-read : goal.returns-in-Err-read
 returns-in-Err-read c =
-    let p = parts c.in-ok-frame.frame in
-    let k = c.in-ok-circuit.circuit in
-    let a = c.in-default.ensures.answer in
-    by_claims c.args.job.now p (netlist k) _ c.in-ok-frame.ensures c.in-ok-circuit.ensures.reads
-    (bad_property (subst (λ (z : Sizes). Read p.assumption z a.tree) c.sizes-of-sizes.ensures a.read)
-    (subst (λ (z : Sizes). Refused p.property z c.in-Err-read.misreading) c.sizes-of-sizes.ensures c.in-Err-read.ensures.answer))
+    let p = parts c.in_ok-frame.frame in
+    let k = c.in_ok-circuit.circuit in
+    let a = c.in_default.ensures.answer in
+    by_claims c.args.job.now p (netlist k) _ c.in_ok-frame.ensures c.in_ok-circuit.ensures.reads
+    (bad_property (subst (λ (z : Sizes). Read p.assumption z a.tree) c.sizes_of-sizes.ensures a.read)
+    (subst (λ (z : Sizes). Refused p.property z c.in-Err-read.misreading) c.sizes_of-sizes.ensures c.in-Err-read.ensures.answer))
 
 pub returns : goal.returns
 returns c =
-    let p = parts c.in-ok-frame.frame in
-    let k = c.in-ok-circuit.circuit in
-    let a = c.in-default.ensures.answer in
-    let b = c.in-default-read.ensures.answer in
-    subst (Reports c.args.job.now) (λ i. report.Read (sym c.registers.ensures i) (sym c.inputs.ensures i) (sym c.gate-count.ensures i))
-    (by_claims c.args.job.now p (netlist k) _ c.in-ok-frame.ensures c.in-ok-circuit.ensures.reads
-    (both_read (subst (λ (z : Sizes). Read p.assumption z a.tree) c.sizes-of-sizes.ensures a.read)
-    (subst (λ (z : Sizes). Read p.property z b.tree) c.sizes-of-sizes.ensures b.read)))
+    let p = parts c.in_ok-frame.frame in
+    let k = c.in_ok-circuit.circuit in
+    let a = c.in_default.ensures.answer in
+    let b = c.in_default-read.ensures.answer in
+    subst (Reports c.args.job.now) (λ i. report.Read (sym c.registers.ensures i) (sym c.inputs.ensures i) (sym c.gate_count.ensures i))
+    (by_claims c.args.job.now p (netlist k) _ c.in_ok-frame.ensures c.in_ok-circuit.ensures.reads
+    (both_read (subst (λ (z : Sizes). Read p.assumption z a.tree) c.sizes_of-sizes.ensures a.read)
+    (subst (λ (z : Sizes). Read p.property z b.tree) c.sizes_of-sizes.ensures b.read)))
