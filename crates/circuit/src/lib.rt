@@ -1,5 +1,6 @@
 // Circuit files: read, or refused with the first fault.
 #![tactic(auto)]
+
 ghost use Rattle.std.specs.Prelude.{◌≡◌, ℕ, ◌+◌, ◌*◌, ◌/◌, ◌<◌, ◌≤◌, ◌&&◌, List, map, length, take, IfOk, Err, MatchResult, nat_lt, slice_index};
 ghost use Rattle.std.specs.List.{range_with_len};
 ghost use Rattle.circuit.specs.declared.refusal.Refusal.TheVariants.{Wire};

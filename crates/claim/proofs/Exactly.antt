@@ -1,13 +1,12 @@
 -- Each text is read in one way or refused for one fault.
-use Rattle.std.proofs.Common.{◌≡◌, ℕ, ◌<◌, ◌≤◌, ◌⊎◌, List, [], ◌∷◌, ◌++◌, length, Ok, Err, Result, sym, refl, ap, ◌∙◌, subst, inl, inr, ⊎_elim, arith}
+use Rattle.std.proofs.Common.{◌≡◌, ℕ, ◌⊎◌, List, length, Ok, Err, Result, sym, refl, ap, ◌∙◌, subst, inl, inr, ⊎_elim, arith}
 use Rattle.std.proofs.lemmas.Bool.{cases_lt}
-use Rattle.claim.specs.declared.code.Sort.{Sort}
 use Rattle.claim.specs.declared.code.Sizes.{Sizes}
 use Rattle.claim.specs.declared.fault.Fault.{Fault}
 use Rattle.claim.specs.declared.fault.Fault.TheVariants.{Claim, Name, Deep}
-use Rattle.claim.specs.Tokens.{Kind, name, Tok, tok, tokens}
+use Rattle.claim.specs.Tokens.{Kind, Tok, tok, tokens}
 use Rattle.claim.specs.Grammar.{Tree, Says}
-use Rattle.claim.specs.Faults.{place_of, Opens, opens_not, opens_paren, AtFault, no_claim, no_such, too_deep, Fails, First, Read, Refused, too_long, at_fault}
+use Rattle.claim.specs.Faults.{place_of, Opens, AtFault, no_claim, no_such, too_deep, Fails, First, Read, Refused, too_long, at_fault}
 use Rattle.claim.specs.Exact.{Exact}
 use Rattle.claim.specs.Machine.{State, scan}
 use Rattle.claim.proofs.Places.{Rising, rising, same_place}

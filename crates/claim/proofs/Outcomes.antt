@@ -1,16 +1,16 @@
 -- What the machine finds, said of the text.
-use Rattle.std.proofs.Common.{◌≡◌, ℕ, zero, suc, ◌+◌, ◌<◌, ◌≤◌, ◌⊎◌, List, [], ◌∷◌, ◌++◌, length, Some, None, Ok, Err, Option, Result, sym, refl, ap, ◌∙◌, subst, inl, inr, ⊎_elim, arith}
+use Rattle.std.proofs.Common.{◌≡◌, ℕ, zero, suc, ◌+◌, ◌≤◌, List, [], ◌∷◌, ◌++◌, length, Some, Ok, Err, Result, sym, refl, ap, ◌∙◌, subst, ⊎_elim, arith}
 use Rattle.std.proofs.lemmas.Bool.{cases_lt}
 use Rattle.claim.specs.declared.code.Sizes.{Sizes}
 use Rattle.claim.specs.declared.fault.Fault.{Fault}
-use Rattle.claim.specs.declared.fault.Fault.TheVariants.{Claim, Name, Deep}
+use Rattle.claim.specs.declared.fault.Fault.TheVariants.{Claim}
 use Rattle.claim.specs.Tokens.{Kind, bang, lparen, end, Tok, tok, Class, space, mark, letter, class, digits, begun, more, tokens}
-use Rattle.claim.specs.Grammar.{Tree, Says}
-use Rattle.claim.specs.Faults.{place_of, Viable, Opens, opens_not, opens_paren, Open, AtFault, no_claim, no_such, too_deep, Fails, First, Read, Refused, too_long, at_fault}
-use Rattle.claim.specs.Machine.{State, want, have, over, depths, deep, next, flaw, step, after, scan, Halts}
+use Rattle.claim.specs.Grammar.{Tree}
+use Rattle.claim.specs.Faults.{place_of, Viable, Opens, opens_not, opens_paren, Open, AtFault, no_claim, no_such, too_deep, Fails, First, Read, Refused, at_fault}
+use Rattle.claim.specs.Machine.{State, want, have, over, deep, next, step, after, scan}
 use Rattle.claim.proofs.Places.{Rising, rising, same_place, sooner}
-use Rattle.claim.proofs.Runs.{start, run, run_append, scan_append, scan_run, known, few_open, Passed, passed, Flawed, unknown, too_many, Why, stuck, flawed, why, Halted, halted}
-use Rattle.claim.proofs.Prefixes.{push, stands, viable, not_viable, open_at}
+use Rattle.claim.proofs.Runs.{start, run, run_append, scan_run, known, few_open, Passed, passed, unknown, too_many, Why, stuck, flawed, why, halted}
+use Rattle.claim.proofs.Prefixes.{stands, viable, not_viable, open_at}
 
 pub fault_place : {z : Sizes} {ts : List Tok} {p : ℕ} {k : Kind} {f : Fault} → AtFault z ts p k f → place_of f ≡ p
 fault_place (no_claim v n) = refl

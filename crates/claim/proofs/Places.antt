@@ -1,6 +1,6 @@
 -- Places rise from token to token.
-use Rattle.std.proofs.Common.{◌≡◌, ℕ, zero, suc, ◌+◌, ◌<◌, ◌≤◌, List, [], ◌∷◌, ◌++◌, sym, refl, ap, ◌∙◌, subst, arith}
-use Rattle.claim.specs.Tokens.{Tok, tok, Class, space, mark, letter, class, digits, begun, more, tokens}
+use Rattle.std.proofs.Common.{◌≡◌, ℕ, zero, suc, ◌+◌, ◌<◌, ◌≤◌, List, [], ◌∷◌, ◌++◌, refl, ap, subst, arith}
+use Rattle.claim.specs.Tokens.{Tok, Class, space, mark, letter, class, digits, begun, more, tokens}
 
 abbrev pub Rising : ℕ → List Tok → Type 0
 Rising p [] = Unit {0}

@@ -1,7 +1,7 @@
 -- What has been run through begins some text, and leaves open what the state says.
-use Rattle.std.proofs.Common.{◌≡◌, ℕ, ◌+◌, ◌<◌, ◌≤◌, true, List, [], ◌∷◌, ◌++◌, Some, None, Option, sym, refl, ap, ◌∙◌, subst, append_assoc, append-nil, arith}
+use Rattle.std.proofs.Common.{◌≡◌, ℕ, ◌+◌, ◌≤◌, true, List, [], ◌∷◌, ◌++◌, Some, None, Option, sym, refl, ap, ◌∙◌, subst, append_assoc, append-nil, arith}
 use Rattle.claim.specs.Tokens.{Kind, bang, amp, bar, lparen, rparen, constant, name, wrong, end, Tok, tok}
-use Rattle.claim.specs.Grammar.{Level, claim, term, factor, Tree, disj, conj, Derives, one_term, more_terms, one_factor, more_factors, a_not, in_parens, a_constant, a_name, Says, a_text}
+use Rattle.claim.specs.Grammar.{Level, claim, factor, Tree, disj, conj, Derives, one_term, more_terms, one_factor, more_factors, a_not, in_parens, a_constant, a_name, Says, a_text}
 use Rattle.claim.specs.Faults.{Viable, Opens, opens_not, opens_paren, Joins, joins_and, joins_or, Leaves, nothing, opener, joint, ended, Open}
 use Rattle.claim.specs.Machine.{State, want, have, over, depths, deep, next}
 use Rattle.claim.proofs.Runs.{start, go, run, run_append, run_none, comes, comes_over}

@@ -1,5 +1,5 @@
 -- The codes of a tree, run over a stack, leave what the tree comes to on top.
-use Rattle.std.proofs.Common.{◌≡◌, ℕ, ◌≤◌, List, [], ◌∷◌, ◌++◌, length, sym, refl, ap, ◌∙◌, arith}
+use Rattle.std.proofs.Common.{◌≡◌, ℕ, ◌≤◌, List, [], ◌∷◌, ◌++◌, length, refl, ap, ◌∙◌, arith}
 use Rattle.claim.specs.declared.code.Act.{Act}
 use Rattle.claim.specs.declared.code.Act.TheVariants.{Constant, Name, Not, And, Or}
 use Rattle.claim.specs.declared.code.Code.{Code}

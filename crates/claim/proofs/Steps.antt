@@ -1,5 +1,5 @@
 -- How what one reader read joins what another did.
-use Rattle.std.proofs.Common.{◌≡◌, ℕ, ◌+◌, ◌-◌, ◌*◌, ◌<◌, ◌≤◌, Bool, true, false, cond, List, [], ◌∷◌, ◌++◌, length, take, Some, None, Ok, Err, Result, sym, refl, ap, ◌∙◌, subst, append_assoc, append-nil, arith, length-append, Bor, MatchResult}
+use Rattle.std.proofs.Common.{◌≡◌, ℕ, ◌+◌, ◌-◌, ◌*◌, ◌<◌, ◌≤◌, Bool, cond, List, [], ◌∷◌, ◌++◌, length, take, Some, None, Ok, Err, Result, sym, refl, ap, ◌∙◌, subst, append_assoc, append-nil, arith, length-append, Bor, MatchResult}
 use Rattle.std.proofs.lemmas.Bool.{lt-ltb, le-ltb}
 use Rattle.claim.specs.declared.code.Sort.{Sort}
 use Rattle.claim.specs.declared.code.Act.TheVariants as act
@@ -13,8 +13,8 @@ use Rattle.claim.specs.declared.reader.Reader.{Reader}
 use Rattle.claim.specs.Tokens.{Kind, bang, amp, bar, lparen, rparen, constant, name, Tok, tok}
 use Rattle.claim.specs.Seen.{kind_of, left, Placed}
 use Rattle.claim.specs.Grammar.{Level, claim, term, factor, Tree, const, named, neg, conj, disj, Derives, one_term, more_terms, one_factor, more_factors, a_not, in_parens, a_constant, a_name, value, code, post, limit}
-use Rattle.claim.specs.Machine.{State, want, have, depths, next, flaw, judged, step, scan, Halts}
-use Rattle.claim.specs.Reading.{ahead, Ready, Reach, Bare, Follow, Sofar, Taken, Stopped}
+use Rattle.claim.specs.Machine.{State, want, have, depths, next, flaw, judged, step, scan}
+use Rattle.claim.specs.Reading.{ahead, Ready, Reach, Bare, Sofar, Taken, Stopped}
 use Rattle.claim.proofs.Runs.{scan_append}
 
 pub reach_none : {a : Reader} → Reach a a [] []

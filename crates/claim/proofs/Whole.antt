@@ -1,5 +1,5 @@
 -- From the readers' promises to the text.
-use Rattle.std.proofs.Common.{◌≡◌, ℕ, ◌+◌, ◌<◌, ◌≤◌, cond, List, [], ◌∷◌, ◌++◌, length, take, drop, Ok, sym, refl, ap, ◌∙◌, subst, ⊎_elim, append_assoc, append-nil, arith, length-append}
+use Rattle.std.proofs.Common.{◌≡◌, ℕ, ◌<◌, ◌≤◌, cond, List, [], ◌∷◌, ◌++◌, length, take, drop, Ok, sym, refl, ap, ◌∙◌, subst, ⊎_elim, append_assoc, arith}
 use Rattle.std.proofs.lemmas.Bool.{cases_lt, le-ltb}
 use Rattle.claim.specs.declared.code.Act.{Act}
 use Rattle.claim.specs.declared.code.Act.TheVariants.{Constant, Name, Not, And, Or}
@@ -9,13 +9,12 @@ use Rattle.claim.specs.declared.code.Sizes.{Sizes}
 use Rattle.claim.specs.declared.codes.Codes.{Codes}
 use Rattle.claim.specs.declared.fault.Fault.{Fault}
 use Rattle.claim.specs.declared.fault.Fault.TheVariants as fault
-use Rattle.claim.specs.declared.lexer.Token.{Token}
 use Rattle.claim.specs.declared.lexer.Token.TheVariants.{End}
 use Rattle.claim.specs.declared.reader.Reader.{Reader}
 use Rattle.claim.specs.Tokens.{bang, amp, bar, lparen, rparen, name, end, Tok, tok, tokens}
-use Rattle.claim.specs.Seen.{kind_of, left, Placed, Lexed}
+use Rattle.claim.specs.Seen.{kind_of, left, Lexed}
 use Rattle.claim.specs.Grammar.{Level, claim, Tree, Derives, one_term, more_terms, one_factor, more_factors, a_not, in_parens, a_constant, a_name, Says, a_text, value, post, limit, weight, operators, Known}
-use Rattle.claim.specs.Faults.{no_such, Fails, Read, Refused, at_fault}
+use Rattle.claim.specs.Faults.{no_such, Read, Refused, at_fault}
 use Rattle.claim.specs.Machine.{want, have, over, scan}
 use Rattle.claim.specs.Reading.{ahead, Sofar, Taken, Stopped}
 use Rattle.claim.specs.Result.{used, Reads}

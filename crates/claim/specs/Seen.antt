@@ -1,5 +1,5 @@
 -- What the code sees of a text.
-use Rattle.std.specs.Prelude.{◌≡◌, ℕ, ◌<◌, ◌≤◌, Bool, cond, List, [], ◌∷◌, length, drop, ◌≢◌, nat_lt}
+use Rattle.std.specs.Prelude.{◌≡◌, ℕ, ◌<◌, ◌≤◌, cond, List, [], ◌∷◌, length, drop, ◌≢◌, nat_lt}
 use Rattle.claim.specs.declared.lexer.Token.{Token}
 use Rattle.claim.specs.declared.lexer.Token.TheVariants.{Not, And, Or, Open, Close, Constant, Name, Wrong, End}
 use Rattle.claim.specs.declared.lexer.Class as code

@@ -1,5 +1,6 @@
 // Claims about a circuit: one or more terms joined by `|`, each one or more factors joined by `&`.
 #![tactic(auto)]
+
 ghost use Rattle.std.specs.Prelude.{◌≡◌, MatchResult};
 ghost use Rattle.claim.specs.Faults.{Refused};
 ghost use Rattle.claim.specs.Exact.{Exact};

@@ -1,5 +1,6 @@
 // The diagram store: functions as reduced ordered diagrams, in node records that are handed to it, variable 0 on top.
 #![tactic(auto)]
+
 ghost use Rattle.std.specs.Prelude.{◌≤◌};
 ghost use Rattle.records.specs.Contents.{entries, room};
 ghost use Rattle.nodes.specs.Graph.{Sound};

@@ -1,5 +1,6 @@
 // Jobs: the frame that holds a circuit file and two texts, and the report on it.
 #![tactic(auto)]
+
 ghost use Rattle.std.specs.Prelude.{◌≡◌, Some};
 ghost use Rattle.circuit.specs.Reading.{netlist};
 ghost use Rattle.job.specs.Faults.{number_of, part_of, place_of};

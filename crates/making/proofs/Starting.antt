@@ -15,7 +15,7 @@ use Rattle.making.specs.Pieces.{halves_list, negations_list}
 use Rattle.making.specs.Loads.{first_list, start_list, Loaded}
 use Rattle.making.specs.Ends.{Ends, plain, Gives}
 use Rattle.making.specs.Promises.{MakesFirst, Negates}
-use Rattle.making.proofs.Steps.{kept, and_answers, gives_last}
+use Rattle.making.proofs.Steps.{and_answers, gives_last}
 use Rattle.making.proofs.Placing.{Lies, lies_at, lies_++, lies_upto}
 
 pub lies_start : (p l n k : ℕ) (h q init : Fn) (next : ℕ → Fn) → Lies p l (start_list p l n k h q init next)

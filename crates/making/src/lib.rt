@@ -1,5 +1,6 @@
 // Makes the functions of a circuit and its claims in any store.
 #![tactic(auto)]
+
 mod claims;
 pub mod fault;
 mod gates;

@@ -1,5 +1,6 @@
 // The nodes of reduced ordered diagrams.
 #![tactic(auto)]
+
 ghost use Rattle.std.specs.Prelude.{◌≡◌};
 ghost use Rattle.nodes.specs.Graph.{child};
 

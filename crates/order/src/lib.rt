@@ -1,5 +1,6 @@
 // A store over any store: its variable i is variable p(i) below, and all else is as below with the variables so renamed.
 #![tactic(auto)]
+
 ghost use Rattle.std.specs.Prelude.{◌≡◌, take};
 ghost use Rattle.order.specs.Listing.{is_order, order_of, verdict};
 ghost use Rattle.order.specs.Renaming.{ordered};

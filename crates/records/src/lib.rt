@@ -1,5 +1,6 @@
 // A list of entries in lent records: an entry is found, or added at the end, or there is no room.
 #![tactic(auto)]
+
 ghost use Rattle.std.specs.Prelude.{◌≡◌, [], length, take};
 ghost use Rattle.std.specs.Option.{option_map};
 ghost use Rattle.std.specs.List.{slice_get};

@@ -15,7 +15,7 @@ use Rattle.claim.specs.Truth.{fold, truth}
 use Rattle.runs.specs.Numbers.{bits}
 use Rattle.runs.specs.Systems.{Closed}
 use Rattle.runs.specs.Search.{bad}
-use Rattle.runs.specs.Functions.{register, input, spread, negated}
+use Rattle.runs.specs.Functions.{spread, negated}
 use Rattle.runs.specs.Steps.{state_at, input_at, Stands}
 use Rattle.runs.specs.Models.{Model, name_value, claimed, system, sizes, Valid, DescriptionsValid, Agrees, SystemsAgree}
 use Rattle.runs.specs.Valuations.{registers_at, inputs_at, literal_fn, name_line, line_fn, claim_fn, claim_ops, next_fn, init_fn, Lined, Stepped, At, FunctionsExact}

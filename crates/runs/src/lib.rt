@@ -1,5 +1,6 @@
 // Transition systems of circuits and claims, and what a backward search says of their runs.
 #![tactic(auto)]
+
 ghost use Rattle.runs.specs.Systems.{System};
 ghost use Rattle.runs.specs.Facts.{Worked};
 ghost use Rattle.runs.specs.Valuations.{FunctionsExact};

@@ -1,5 +1,5 @@
 -- What a store shows to its user, and the laws of what it shows.
-use Rattle.std.specs.Prelude.{◌≡◌, ℕ, ◌+◌, ◌-◌, ◌^◌, ◌<◌, ◌≤◌, Bool, true, false, ◌&&◌, nat_lt}
+use Rattle.std.specs.Prelude.{◌≡◌, ℕ, ◌+◌, ◌-◌, ◌<◌, ◌≤◌, Bool, true, false, ◌&&◌, nat_lt}
 use Rattle.store.specs.Fun.{Fn, Same, same, some}
 
 pub record Shown : Type 0 where

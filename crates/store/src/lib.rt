@@ -1,5 +1,6 @@
 // A store of Boolean functions: what each call answers, and what the store then shows, for every make alike.
 #![tactic(auto)]
+
 ghost use Rattle.std.specs.Prelude.{◌≡◌};
 ghost use Rattle.store.specs.Meaning.{Shown};
 ghost use Rattle.store.specs.Calls.{MakesVariable, MakesNot, MakesAnd, MakesOr, MakesCofactor, TellsValue, TellsFigures};

@@ -1,5 +1,6 @@
 // A store that keeps each function as the table of its truths, one record a function.
 #![tactic(auto)]
+
 ghost use Rattle.std.specs.Prelude.{◌≡◌, ◌≤◌, true, [], length, if◌then◌else◌};
 ghost use Rattle.records.specs.Contents.{entries, room};
 ghost use Rattle.store.specs.Meaning.{Fresh, Lawful};

@@ -1,5 +1,6 @@
 // Uses of a session: its calls with their answers, the rules that each call follows, and what every use comes to.
 #![tactic(auto)]
+
 ghost use Rattle.uses.specs.Promise.{Promised};
 ghost use Rattle.uses.specs.Steps.{Determined, Possible};
 

@@ -1,4 +1,4 @@
-use Rattle.std.proofs.Common.{◌≡◌, sym, ap, ◌∙◌, arith, below_more}
+use Rattle.std.proofs.Common.{◌≡◌, sym, ap, arith, below_more}
 use Rattle.circuit.specs.declared.refusal.Refusal.TheVariants.{Wire}
 use Rattle.circuit.specs.Rules.{first_miswired}
 use Rattle.circuit.specs.Steps.{drawn}

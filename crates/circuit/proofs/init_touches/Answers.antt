@@ -1,4 +1,4 @@
-use Rattle.std.proofs.Common.{◌≡◌, ℕ, ◌-◌, false, ◌≢◌, sym, ap, ◌∙◌, arith, below_more}
+use Rattle.std.proofs.Common.{◌-◌, false, ◌≢◌, sym, ap, ◌∙◌, arith, below_more}
 use Rattle.std.proofs.lemmas.List.{length-set, get_or-set_same, get_or-set_other}
 use Rattle.circuit.specs.Lines.{touching}
 use Rattle.circuit.specs.Netlists.{gate_line}

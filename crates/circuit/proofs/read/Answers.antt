@@ -1,4 +1,4 @@
-use Rattle.std.proofs.Common.{◌≡◌, ◌+◌, ◌*◌, ◌≤◌, length, sym, arith}
+use Rattle.std.proofs.Common.{sym, arith}
 use Rattle.circuit.proofs.Lines.{determined}
 use Rattle.circuit.proofs.Whole.{counted, refused, accepted, sound}
 use Rattle.circuit.proofs.read.Goals as goal

@@ -1,4 +1,4 @@
-use Rattle.std.proofs.Common.{◌≡◌, ℕ, ◌<◌, ◌≢◌, length, take, ◌∙◌, ap₂, arith, below_more}
+use Rattle.std.proofs.Common.{ℕ, ◌≢◌, take, ◌∙◌, ap₂, arith, below_more}
 use Rattle.std.proofs.lemmas.List.FromFn.{fill_by_all}
 use Rattle.std.proofs.lemmas.List.{length-set, get_or-set_same, get_or-set_other, length-take-le, get_or-take}
 use Rattle.circuit.specs.declared.gate.Gate.{Gate}

@@ -1,8 +1,7 @@
-use Rattle.std.proofs.Common.{◌≡◌, ℕ, sym, subst}
+use Rattle.std.proofs.Common.{sym, subst}
 use Rattle.circuit.specs.Reading.{netlist}
 use Rattle.claim.specs.declared.code.Sizes.{Sizes}
 use Rattle.claim.specs.Faults.{Read, Refused}
-use Rattle.job.specs.declared.report.Report.{Report}
 use Rattle.job.specs.declared.report.Report.TheVariants as report
 use Rattle.job.specs.declared.frame.Frame.{Frame}
 use Rattle.job.specs.Frames.{Parts}

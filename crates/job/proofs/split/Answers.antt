@@ -1,7 +1,6 @@
 use Rattle.std.proofs.Common.{◌≡◌, ℕ, ◌+◌, ◌-◌, ◌*◌, List, length, take, drop, Ok, sym, ap, ◌∙◌, ap₂, arith}
 use Rattle.std.proofs.lemmas.List.{take_rest}
 use Rattle.std.proofs.lemmas.Bool.{cond-false, cond-true, le-ltb, eq-eqb}
-use Rattle.circuit.specs.Files.{number_at}
 use Rattle.job.specs.Frames.{Parts, circuit_length, assumption_length, total}
 use Rattle.job.proofs.split.Goals as goal
 

@@ -1,4 +1,4 @@
-use Rattle.std.proofs.Common.{sym, refl, append-nil, arith}
+use Rattle.std.proofs.Common.{refl, arith}
 use Rattle.std.proofs.lemmas.List.{length-set, take_more_set}
 use Rattle.claim.proofs.reader.Reader.write.Goals as goal
 
