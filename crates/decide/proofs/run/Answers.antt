@@ -12,58 +12,58 @@ use Rattle.decide.proofs.run.Goals as goal
 abbrev parts : Frame → Parts
 parts f = record { circuit = f.circuit.now; assumption = f.assumption.now; property = f.property.now }
 
-pub returns-in-err-frame : goal.returns-in-err-frame
-returns-in-err-frame g c =
-    refuses (g.S.Store.shows c.args.store) c.args.job.now c.from-residual.result (Unframed c.in-err-frame.field-0.0) c.from-residual.ensures.1
-    (unframed (sym c.in-err-frame.ensures))
+pub returns-in_err-frame : goal.returns-in_err-frame
+returns-in_err-frame g c =
+    refuses (g.S.Store.shows c.args.store) c.args.job.now c.from_residual.result (Unframed c.in_err-frame.field-0.0) c.from_residual.ensures.1
+    (unframed (sym c.in_err-frame.ensures))
 
-pub returns-in-err-first : goal.returns-in-err-first
-returns-in-err-first g c =
+pub returns-in_err-first : goal.returns-in_err-first
+returns-in_err-first g c =
     let s = g.S.Store.shows c.args.store in
     let n = c.new-session.ensures in
-    let b = loaded_by s (world g.S.Store.shows c.new-session.result) (world g.S.Store.shows c.load.new.self) n.store n.begun n.keeps c.in-err-first.ensures.next in
-    refuses s c.args.job.now c.from-residual-in-err-first.result (Call c.in-err-first.field-0.0) c.from-residual-in-err-first.ensures.1
-    (not_begun s c.args.job.now (parts c.in-ok-frame.frame) (sym c.in-ok-frame.ensures) c.in-err-first.field-0.0 b)
+    let b = loaded_by s (world g.S.Store.shows c.new-session.result) (world g.S.Store.shows c.load.new.self) n.store n.begun n.keeps c.in_err-first.ensures.next in
+    refuses s c.args.job.now c.from_residual-in_err-first.result (Call c.in_err-first.field-0.0) c.from_residual-in_err-first.ensures.1
+    (not_begun s c.args.job.now (parts c.in_ok-frame.frame) (sym c.in_ok-frame.ensures) c.in_err-first.field-0.0 b)
 
-pub returns-in-err-depth : goal.returns-in-err-depth
-returns-in-err-depth g c =
+pub returns-in_err-depth : goal.returns-in_err-depth
+returns-in_err-depth g c =
     let s = g.S.Store.shows c.args.store in
     let n = c.new-session.ensures in
-    let b = loaded_by s (world g.S.Store.shows c.new-session.result) (world g.S.Store.shows c.load.new.self) n.store n.begun n.keeps c.in-ok-first.ensures.next in
-    refuses s c.args.job.now c.from-residual-in-err-depth.result (Call c.in-err-depth.field-0.0) c.from-residual-in-err-depth.ensures.1
-    (not_settled s c.args.job.now (parts c.in-ok-frame.frame) (sym c.in-ok-frame.ensures) b.model b.describes c.in-err-depth.field-0.0
-    (c.in-err-depth.ensures.settles s b.model b.come b.told_is))
+    let b = loaded_by s (world g.S.Store.shows c.new-session.result) (world g.S.Store.shows c.load.new.self) n.store n.begun n.keeps c.in_ok-first.ensures.next in
+    refuses s c.args.job.now c.from_residual-in_err-depth.result (Call c.in_err-depth.field-0.0) c.from_residual-in_err-depth.ensures.1
+    (not_settled s c.args.job.now (parts c.in_ok-frame.frame) (sym c.in_ok-frame.ensures) b.model b.describes c.in_err-depth.field-0.0
+    (c.in_err-depth.ensures.settles s b.model b.come b.told_is))
 
 pub conclude-requires : goal.conclude-requires
 conclude-requires g c =
     let s = g.S.Store.shows c.args.store in
     let n = c.new-session.ensures in
-    let b = loaded_by s (world g.S.Store.shows c.new-session.result) (world g.S.Store.shows c.load.new.self) n.store n.begun n.keeps c.in-ok-first.ensures.next in
-    let e = c.in-ok-depth.ensures.settles s b.model b.come b.told_is in
-    let a = answered_by s b.model c.in-ok-depth.depth (world g.S.Store.shows c.settle.new.session) _ e.come c.verdict-verdict.ensures.next in
+    let b = loaded_by s (world g.S.Store.shows c.new-session.result) (world g.S.Store.shows c.load.new.self) n.store n.begun n.keeps c.in_ok-first.ensures.next in
+    let e = c.in_ok-depth.ensures.settles s b.model b.come b.told_is in
+    let a = answered_by s b.model c.in_ok-depth.depth (world g.S.Store.shows c.settle.new.session) _ e.come c.verdict-verdict.ensures.next in
     record {
-      few = few_registers s.vars c.in-ok-frame.frame.circuit.now b.model.circuit b.describes.circuit;
-      short = c.in-ok-depth.ensures.short;
-      decided = decided b.model c.in-ok-depth.depth c.verdict-verdict.result a e.settled;
+      few = few_registers s.vars c.in_ok-frame.frame.circuit.now b.model.circuit b.describes.circuit;
+      short = c.in_ok-depth.ensures.short;
+      decided = decided b.model c.in_ok-depth.depth c.verdict-verdict.result a e.settled;
     }
 
-pub returns-in-err-report : goal.returns-in-err-report
-returns-in-err-report g c =
+pub returns-in_err-report : goal.returns-in_err-report
+returns-in_err-report g c =
     let s = g.S.Store.shows c.args.store in
     let n = c.new-session.ensures in
-    let b = loaded_by s (world g.S.Store.shows c.new-session.result) (world g.S.Store.shows c.load.new.self) n.store n.begun n.keeps c.in-ok-first.ensures.next in
-    let e = c.in-ok-depth.ensures.settles s b.model b.come b.told_is in
-    let a = answered_by s b.model c.in-ok-depth.depth (world g.S.Store.shows c.settle.new.session) _ e.come c.verdict-verdict.ensures.next in
-    let k = subst (λ z. Come s b.model c.in-ok-depth.depth (world g.S.Store.shows z)) (sym c.verdict-verdict.ensures.same) e.come in
-    absurd (c.in-err-report.ensures s b.model k a (sizes_are s.vars c.in-ok-frame.frame.circuit.now b.model.circuit b.describes.circuit))
+    let b = loaded_by s (world g.S.Store.shows c.new-session.result) (world g.S.Store.shows c.load.new.self) n.store n.begun n.keeps c.in_ok-first.ensures.next in
+    let e = c.in_ok-depth.ensures.settles s b.model b.come b.told_is in
+    let a = answered_by s b.model c.in_ok-depth.depth (world g.S.Store.shows c.settle.new.session) _ e.come c.verdict-verdict.ensures.next in
+    let k = subst (λ z. Come s b.model c.in_ok-depth.depth (world g.S.Store.shows z)) (sym c.verdict-verdict.ensures.same) e.come in
+    absurd (c.in_err-report.ensures s b.model k a (sizes_are s.vars c.in_ok-frame.frame.circuit.now b.model.circuit b.describes.circuit))
 
 pub returns : goal.returns
 returns g c =
     let s = g.S.Store.shows c.args.store in
     let n = c.new-session.ensures in
-    let b = loaded_by s (world g.S.Store.shows c.new-session.result) (world g.S.Store.shows c.load.new.self) n.store n.begun n.keeps c.in-ok-first.ensures.next in
-    let e = c.in-ok-depth.ensures.settles s b.model b.come b.told_is in
-    let a = answered_by s b.model c.in-ok-depth.depth (world g.S.Store.shows c.settle.new.session) _ e.come c.verdict-verdict.ensures.next in
-    let k = subst (λ z. Come s b.model c.in-ok-depth.depth (world g.S.Store.shows z)) (sym c.verdict-verdict.ensures.same) e.come in
-    concluded s c.args.job.now (parts c.in-ok-frame.frame) (sym c.in-ok-frame.ensures) b.model b.describes _ _ c.in-ok-report.report e.come.searched
-    (c.in-ok-report.ensures s b.model k a (sizes_are s.vars c.in-ok-frame.frame.circuit.now b.model.circuit b.describes.circuit))
+    let b = loaded_by s (world g.S.Store.shows c.new-session.result) (world g.S.Store.shows c.load.new.self) n.store n.begun n.keeps c.in_ok-first.ensures.next in
+    let e = c.in_ok-depth.ensures.settles s b.model b.come b.told_is in
+    let a = answered_by s b.model c.in_ok-depth.depth (world g.S.Store.shows c.settle.new.session) _ e.come c.verdict-verdict.ensures.next in
+    let k = subst (λ z. Come s b.model c.in_ok-depth.depth (world g.S.Store.shows z)) (sym c.verdict-verdict.ensures.same) e.come in
+    concluded s c.args.job.now (parts c.in_ok-frame.frame) (sym c.in_ok-frame.ensures) b.model b.describes _ _ c.in_ok-report.report e.come.searched
+    (c.in_ok-report.ensures s b.model k a (sizes_are s.vars c.in_ok-frame.frame.circuit.now b.model.circuit b.describes.circuit))

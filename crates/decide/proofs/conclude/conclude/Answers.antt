@@ -15,29 +15,29 @@ refused t = never (cc)
 same_count : {a b : ℕ} → ◌≡◌ {A = Result ℕ Fault} (Ok a) (Ok b) → a ≡ b
 same_count t = cc
 
-pub returns-in-err-inside : goal.returns-in-err-inside
-returns-in-err-inside g c s m k a e =
-    let n = ap (λ (z : Sizes). z.registers) (c.sizes-of-sizes.ensures ∙ e) in
+pub returns-in_err-inside-in-Safe : goal.returns-in_err-inside-in-Safe
+returns-in_err-inside-in-Safe g c s m k a e =
+    let n = ap (λ (z : Sizes). z.registers) (c.sizes_of-sizes.ensures ∙ e) in
     let o = told_safe m c.args.depth c.args.verdict a c.in-Safe.is in
-    handed_on _ _ c.from-residual.result c.in-err-inside.field-0.0 c.from-residual.ensures.1 (refused (c.in-err-inside.ensures s m c.args.depth k o n))
+    handed_on _ _ c.from_residual.result c.in_err-inside-in-Safe.field-0.0 c.from_residual.ensures.1 (refused (c.in_err-inside-in-Safe.ensures s m c.args.depth k o n))
 
-pub returns-in-err-trace : goal.returns-in-err-trace
-returns-in-err-trace g c s m k a e =
+pub returns-in_err-trace-in-Unsafe : goal.returns-in_err-trace-in-Unsafe
+returns-in_err-trace-in-Unsafe g c s m k a e =
     let o = told_unsafe s m c.args.depth c.in-Unsafe.field-0 _ c.args.verdict k a c.in-Unsafe.is in
-    absurd (c.in-err-trace.ensures s m k o)
+    absurd (c.in_err-trace-in-Unsafe.ensures s m k o)
 
-pub returns-in-ok-inside : goal.returns-in-ok-inside
-returns-in-ok-inside g c s m k a e =
+pub returns-in_ok-inside-in-Safe : goal.returns-in_ok-inside-in-Safe
+returns-in_ok-inside-in-Safe g c s m k a e =
     let j = c.args.depth in
-    let z = c.sizes-of-sizes.ensures ∙ e in
+    let z = c.sizes_of-sizes.ensures ∙ e in
     let o = told_safe m j c.args.verdict a c.in-Safe.is in
-    let n = same_count (c.in-ok-inside.ensures s m j k o (ap (λ (z : Sizes). z.registers) z)) in
+    let n = same_count (c.in_ok-inside-in-Safe.ensures s m j k o (ap (λ (z : Sizes). z.registers) z)) in
     subst (Conclusion m j) (λ i. report.Safe (sym z i) j (sym n i)) (is_safe o)
 
-pub returns-in-ok-trace : goal.returns-in-ok-trace
-returns-in-ok-trace g c s m k a e =
+pub returns-in_ok-trace-in-Unsafe : goal.returns-in_ok-trace-in-Unsafe
+returns-in_ok-trace-in-Unsafe g c s m k a e =
     let j = c.args.depth in
-    let z = c.sizes-of-sizes.ensures ∙ e in
+    let z = c.sizes_of-sizes.ensures ∙ e in
     let o = told_unsafe s m j c.in-Unsafe.field-0 _ c.args.verdict k a c.in-Unsafe.is in
-    let t = c.in-ok-trace.ensures s m k o in
-    subst (Conclusion m j) (λ i. report.Unsafe (sym z i) c.in-ok-trace.trace) (is_unsafe t.0 o t.1)
+    let t = c.in_ok-trace-in-Unsafe.ensures s m k o in
+    subst (Conclusion m j) (λ i. report.Unsafe (sym z i) c.in_ok-trace-in-Unsafe.trace) (is_unsafe t.0 o t.1)

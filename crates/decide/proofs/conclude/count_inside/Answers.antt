@@ -22,22 +22,22 @@ counted p q count count' b e f d = let h : b ≡ p q = cc in rw add-one (d ∙ (
 
 pub loop-q-preserved : goal.loop-q-preserved
 loop-q-preserved g c =
-    let n : c.if-inside.count ≡ c.loop-q.count + cond c.in-ok-inside.inside 1 0 =
-    elim c.if-inside.branch [ then-inside w ↦ w.count_is ∙ ap (λ b. c.loop-q.count + cond b 1 0) (sym w.if-inside.true) | else-inside w ↦ w.count_is ∙ sym (add-zero c.loop-q.count) ∙ ap (λ b. c.loop-q.count + cond b 1 0) (sym w.if-inside.false) ] in (
+    let n : c.if-inside.count ≡ c.loop-q.count + cond c.in_ok-inside.inside 1 0 =
+    elim c.if-inside.branch [ then-inside w ↦ w.count-is ∙ ap (λ b. c.loop-q.count + cond b 1 0) (sym w.if-inside.true) | else-inside w ↦ w.count-is ∙ sym (add-zero c.loop-q.count) ∙ ap (λ b. c.loop-q.count + cond b 1 0) (sym w.if-inside.false) ] in (
       c.inside.ensures.same ∙ c.loop-q.invariant.0,
-      elim c.if-inside.branch [ then-inside w ↦ omega (arith, w.count_is) | else-inside w ↦ omega (arith, w.count_is) ],
+      elim c.if-inside.branch [ then-inside w ↦ omega (arith, w.count-is) | else-inside w ↦ omega (arith, w.count-is) ],
       λ s m j k o e.
           let here = subst (Come s m j) (sym c.loop-q.invariant.0) k in
           let l : c.loop-q.q < 2 ^ m.circuit.registers = subst (λ i. c.loop-q.q < 2 ^ i) e (subst (λ i. c.loop-q.q < i) (shifted c.args.registers c.requires) c.loop-q-test.true) in
-          let t = told_by s m j _ (world g.S.Store.shows c.inside.new.self) here o c.in-ok-inside.ensures.next l in
-          counted (inside (system m) j) c.loop-q.q c.loop-q.count c.if-inside.count c.in-ok-inside.inside (c.loop-q.invariant.2 s m j k o e) t n,
+          let t = told_by s m j _ (world g.S.Store.shows c.inside.new.self) here o c.in_ok-inside.ensures.next l in
+          counted (inside (system m) j) c.loop-q.q c.loop-q.count c.if-inside.count c.in_ok-inside.inside (c.loop-q.invariant.2 s m j k o e) t n,
     )
 
-pub returns-in-err-inside : goal.returns-in-err-inside
-returns-in-err-inside g c s m j k o e =
+pub returns-in_err-inside : goal.returns-in_err-inside
+returns-in_err-inside g c s m j k o e =
     let here = subst (Come s m j) (sym c.loop-q.invariant.0) k in
     let l : c.loop-q.q < 2 ^ m.circuit.registers = subst (λ i. c.loop-q.q < 2 ^ i) e (subst (λ i. c.loop-q.q < i) (shifted c.args.registers c.requires) c.loop-q-test.true) in
-    let t = told_by s m j _ (world g.S.Store.shows c.inside.new.self) here o c.in-err-inside.ensures.next l in
+    let t = told_by s m j _ (world g.S.Store.shows c.inside.new.self) here o c.in_err-inside.ensures.next l in
     absurd (refused t)
 
 pub returns : goal.returns

@@ -12,25 +12,25 @@ pub loop-depth-preserved : goal.loop-depth-preserved
 loop-depth-preserved g c s m k e =
     let i = c.loop-depth.invariant s m k e in
     let a = advanced_by s m c.loop-depth.depth (world g.S.Store.shows c.loop-depth.session) (world g.S.Store.shows c.advance.new.self) i.0
-    (told_open m c.loop-depth.depth c.loop-depth.verdict i.1 c.in-Open.is) c.in-ok-verdict.ensures.next in
-    subst (λ d. Come s m d (world g.S.Store.shows c.advance.new.self) × (c.in-ok-verdict.verdict ≡ told (loaded m d))) (sym (add-one c.loop-depth.depth)) a
+    (told_open m c.loop-depth.depth c.loop-depth.verdict i.1 c.in-Open.is) c.in_ok-verdict-in-Open.ensures.next in
+    subst (λ d. Come s m d (world g.S.Store.shows c.advance.new.self) × (c.in_ok-verdict-in-Open.verdict ≡ told (loaded m d))) (sym (add-one c.loop-depth.depth)) a
 
-pub returns-in-err-verdict : goal.returns-in-err-verdict
-returns-in-err-verdict g c = record {
+pub returns-in_err-verdict-in-Open : goal.returns-in_err-verdict-in-Open
+returns-in_err-verdict-in-Open g c = record {
   short = search rules;
   settles = λ s m k e.
       let i = c.loop-depth.invariant s m k e in
       let a = advanced_by s m c.loop-depth.depth (world g.S.Store.shows c.loop-depth.session) (world g.S.Store.shows c.advance.new.self) i.0
-      (told_open m c.loop-depth.depth c.loop-depth.verdict i.1 c.in-Open.is) c.in-err-verdict.ensures.next in
-      handed_on _ (Short s m) c.from-residual.result c.in-err-verdict.field-0.0 c.from-residual.ensures.1 a;
+      (told_open m c.loop-depth.depth c.loop-depth.verdict i.1 c.in-Open.is) c.in_err-verdict-in-Open.ensures.next in
+      handed_on _ (Short s m) c.from_residual.result c.in_err-verdict-in-Open.field-0.0 c.from_residual.ensures.1 a;
 }
 
-pub returns-in-default : goal.returns-in-default
-returns-in-default g c = record {
+pub returns-in_default : goal.returns-in_default
+returns-in_default g c = record {
   short = omega arith;
   settles = λ s m k e.
       let i = c.loop-depth.invariant s m k e in
-      record { come = i.0; settled = not_open m c.loop-depth.depth c.loop-depth.verdict i.1 c.in-default.not-Open };
+      record { come = i.0; settled = not_open m c.loop-depth.depth c.loop-depth.verdict i.1 c.in_default.not-Open };
 }
 
 pub returns : goal.returns

@@ -5,29 +5,29 @@ use Rattle.engine.proofs.Readings.{refused}
 use Rattle.engine.proofs.Searches.{begins_still, within, passed, found_least, not_yet}
 use Rattle.engine.proofs.finding.first_state.Goals as goal
 
-pub returns-in-err-found : goal.returns-in-err-found
-returns-in-err-found g c = record {
-  same = c.begins-in.ensures.same ∙ c.loop-q.invariant.0;
-  finds = λ m i h e. refused (begins_still _ _ _ _ _ _ c.loop-q.invariant.0 c.in-err-found.ensures.begins m i h e
+pub returns-in_err-found : goal.returns-in_err-found
+returns-in_err-found g c = record {
+  same = c.begins_in.ensures.same ∙ c.loop-q.invariant.0;
+  finds = λ m i h e. refused (begins_still _ _ _ _ _ _ c.loop-q.invariant.0 c.in_err-found.ensures.begins m i h e
       (within c.power-q-end.result c.args.parts.now.n m.circuit.registers c.power-q-end.ensures h.registers c.loop-q.q c.loop-q-test.true));
 }
 
 pub returns-then-found : goal.returns-then-found
 returns-then-found g c = record {
-  same = c.begins-in.ensures.same ∙ c.loop-q.invariant.0;
+  same = c.begins_in.ensures.same ∙ c.loop-q.invariant.0;
   finds = λ m i h e.
       let l = within c.power-q-end.result c.args.parts.now.n m.circuit.registers c.power-q-end.ensures h.registers c.loop-q.q c.loop-q-test.true in
-      found_least (initial_in (system m) (bad (system m) i)) c.loop-q.q c.in-ok-found.found
-      (begins_still _ _ _ _ _ _ c.loop-q.invariant.0 c.in-ok-found.ensures.begins m i h e l) (c.loop-q.invariant.1 m i h e) _ l c.if-found.true;
+      found_least (initial_in (system m) (bad (system m) i)) c.loop-q.q c.in_ok-found.found
+      (begins_still _ _ _ _ _ _ c.loop-q.invariant.0 c.in_ok-found.ensures.begins m i h e l) (c.loop-q.invariant.1 m i h e) _ l c.if-found.true;
 }
 
 pub loop-q-preserved : goal.loop-q-preserved
 loop-q-preserved g c = (
-  c.begins-in.ensures.same ∙ c.loop-q.invariant.0,
+  c.begins_in.ensures.same ∙ c.loop-q.invariant.0,
   λ m i h e.
       let l = within c.power-q-end.result c.args.parts.now.n m.circuit.registers c.power-q-end.ensures h.registers c.loop-q.q c.loop-q-test.true in
-      not_yet (initial_in (system m) (bad (system m) i)) c.loop-q.q c.in-ok-found.found
-      (begins_still _ _ _ _ _ _ c.loop-q.invariant.0 c.in-ok-found.ensures.begins m i h e l) (c.loop-q.invariant.1 m i h e) c.if-found.false,
+      not_yet (initial_in (system m) (bad (system m) i)) c.loop-q.q c.in_ok-found.found
+      (begins_still _ _ _ _ _ _ c.loop-q.invariant.0 c.in_ok-found.ensures.begins m i h e l) (c.loop-q.invariant.1 m i h e) c.if-found.false,
 )
 
 pub returns : goal.returns

@@ -2,11 +2,11 @@ use Rattle.std.proofs.Common.{◌≡◌, ◌+◌, ◌-◌, ◌*◌, ◌%◌, ◌
 use Rattle.engine.proofs.Spreads.{spread_step, four, four_few}
 use Rattle.engine.proofs.values.+spread.Goals as goal
 
-pub overflow-mul-result : goal.overflow-mul-result
-overflow-mul-result t c = let h = four_few (c.args.n - 1) (omega arith) in omega (arith, c.spread.ensures.below)
+pub overflow_mul-result : goal.overflow_mul-result
+overflow_mul-result t c = let h = four_few (c.args.n - 1) (omega arith) in omega (arith, c.spread.ensures.below)
 
-pub overflow-add-result : goal.overflow-add-result
-overflow-add-result t c = let h = four_few (c.args.n - 1) (omega arith) in omega (arith, c.spread.ensures.below)
+pub overflow_add-result : goal.overflow_add-result
+overflow_add-result t c = let h = four_few (c.args.n - 1) (omega arith) in omega (arith, c.spread.ensures.below)
 
 pub returns : goal.returns
 returns t c =

@@ -9,9 +9,9 @@ returns-in-Empty g c = record {
   same = refl;
 }
 
-pub returns-in-default : goal.returns-in-default
-returns-in-default g c = record {
-  next = λ h st u k. when_not_safe h st (world g.S.Store.shows c.args.self.now) c.args.q u k c.in-default.not-Empty c.in-default.not-Safe;
+pub returns-in_default : goal.returns-in_default
+returns-in_default g c = record {
+  next = λ h st u k. when_not_safe h st (world g.S.Store.shows c.args.self.now) c.args.q u k c.in_default.not-Empty c.in_default.not-Safe;
   same = refl;
 }
 
@@ -21,12 +21,12 @@ returns-then-q-power g c = record {
   same = refl;
 }
 
-pub returns-in-err-held : goal.returns-in-err-held
-returns-in-err-held g c =
+pub returns-in_err-held : goal.returns-in_err-held
+returns-in_err-held g c =
     let w = world g.S.Store.shows c.args.self.now in
     let l : c.args.q < 2 ^ w.inner.parts.n = subst (λ i. c.args.q < i) c.power.ensures c.if-q-power.false in
     record {
-      next = λ h st u k. absurd (when_refused h st w c.args.q c.in-err-held.field-0.0 k c.in-Safe.is l c.in-err-held.ensures.tells);
+      next = λ h st u k. absurd (when_refused h st w c.args.q c.in_err-held.field-0.0 k c.in-Safe.is l c.in_err-held.ensures.tells);
       same = ap {B = World} (λ s. record { store = s; inner = w.inner }) c.truth.ensures.same;
     }
 
@@ -37,7 +37,7 @@ returns g c =
     let v : World = record { store = g.S.Store.shows c.truth.new.store; inner = w.inner } in
     let e : v ≡ w = ap {B = World} (λ s. record { store = s; inner = w.inner }) c.truth.ensures.same in
     record {
-      next = λ h st u k. subst (Asked h st w c.args.q (Ok (not c.in-ok-held.held))) (sym e)
-          (when_told h st w c.args.q c.in-ok-held.held u k c.in-Safe.is l c.in-ok-held.ensures.tells);
+      next = λ h st u k. subst (Asked h st w c.args.q (Ok (not c.in_ok-held.held))) (sym e)
+          (when_told h st w c.args.q c.in_ok-held.held u k c.in-Safe.is l c.in_ok-held.ensures.tells);
       same = e;
     }
