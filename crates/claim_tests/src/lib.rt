@@ -1,5 +1,6 @@
 // Texts of claims, each with what comes of it.
 #![tactic(auto)]
+
 #[cfg(test)]
 mod tests {
     use claim::code::*;

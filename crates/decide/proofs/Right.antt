@@ -1,12 +1,11 @@
 -- From what the calls of a session gave to the report on a job.
-use Rattle.std.proofs.Common.{◌≡◌, ℕ, ◌≤◌, List, length, IsErrAnd, Ok, Err, Result, sym, refl, ap, ◌∙◌, subst, ⊎_elim}
+use Rattle.std.proofs.Common.{◌≡◌, ℕ, ◌≤◌, List, IsErrAnd, Ok, Result, sym, ap, ◌∙◌, subst, ⊎_elim}
 use Rattle.std.proofs.lemmas.Result.{err_from_is_err_and}
 use Rattle.store.specs.Meaning.{Shown}
 use Rattle.circuit.specs.Files.{registers, says}
 use Rattle.circuit.specs.Netlists.{Netlist}
 use Rattle.circuit.specs.Rules.{reading}
 use Rattle.circuit.proofs.Passing.{reading_says, says_count, reading_sound}
-use Rattle.claim.specs.declared.code.Sizes.{Sizes}
 use Rattle.making.specs.declared.fault.Fault.{Fault as Refusal}
 use Rattle.runs.specs.Models.{Model, system, sizes, Describes}
 use Rattle.runs.specs.Search.{unsafe, verdict}
@@ -15,8 +14,7 @@ use Rattle.decide.specs.declared.fault.Fault.{Fault}
 use Rattle.decide.specs.declared.fault.Fault.TheVariants.{Call}
 use Rattle.decide.specs.declared.report.Report.{Report}
 use Rattle.decide.specs.declared.report.Report.TheVariants as report
-use Rattle.engine.specs.Keeping.{World}
-use Rattle.decide.specs.Reports.{Job, Searched, Reports, unframed, unfit, load_full, advance_full, found_safe, found_unsafe}
+use Rattle.decide.specs.Reports.{Job, Searched, Reports, unfit, load_full, advance_full, found_safe, found_unsafe}
 use Rattle.decide.specs.Searches.{reported, Short, sizes_at, Conclusion, is_safe, is_unsafe}
 use Rattle.decide.proofs.Sessions.{Unbegun}
 

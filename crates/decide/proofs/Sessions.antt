@@ -3,8 +3,8 @@ use Rattle.std.proofs.Common.{◌≡◌, ℕ, suc, ◌^◌, ◌<◌, ◌≤◌, 
 use Rattle.std.proofs.lemmas.Result.{err_from_is_err_and}
 use Rattle.store.specs.Meaning.{Shown}
 use Rattle.making.specs.declared.fault.Fault.{Fault as Refusal}
-use Rattle.making.specs.Making.{Item, Runs, Stops}
-use Rattle.making.specs.Loads.{load_list, advance_list}
+use Rattle.making.specs.Making.{Item, Stops}
+use Rattle.making.specs.Loads.{load_list}
 use Rattle.runs.specs.Models.{Model, system, Describes}
 use Rattle.runs.specs.Search.{unsafe, safe, open_yet, verdict, Reached}
 use Rattle.runs.specs.Search as search

@@ -15,7 +15,6 @@ use Rattle.uses.specs.Calls.{written, Checked}
 use Rattle.uses.specs.Uses.{room}
 use Rattle.job.specs.Frames.{Parts, frame}
 use Rattle.job.specs.declared.fault.Fault.{Fault as Unframed}
-use Rattle.decide.specs.declared.fault.Fault.{Fault}
 use Rattle.decide.specs.declared.fault.Fault.TheVariants.{Frame, Call}
 use Rattle.decide.specs.declared.report.Report.{Report}
 use Rattle.decide.specs.declared.report.Report.TheVariants as report

@@ -1,5 +1,5 @@
 -- What the parts of the search promise one another: w is the session before, and v after.
-use Rattle.std.specs.Prelude.{◌≡◌, ℕ, ◌≤◌, List, Ok, Err, Result, MatchResult}
+use Rattle.std.specs.Prelude.{◌≡◌, ℕ, List, Ok, Err, Result, MatchResult}
 use Rattle.store.specs.Meaning.{Shown}
 use Rattle.circuit.specs.Files.{registers, inputs, count}
 use Rattle.claim.specs.declared.code.Sizes.{Sizes}

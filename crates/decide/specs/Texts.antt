@@ -1,7 +1,5 @@
 -- The text of a report: its lines, each followed by byte 10.
 use Rattle.std.specs.Prelude.{ℕ, zero, suc, List, [], ◌++◌, codes, decimal, slice_index}
-use Rattle.claim.specs.declared.code.Sizes.{Sizes}
-use Rattle.decide.specs.declared.fault.Fault.{Fault}
 use Rattle.decide.specs.declared.report.Report.{Report}
 use Rattle.decide.specs.declared.report.Report.TheVariants.{Safe, Unsafe, Refused}
 use Rattle.decide.specs.declared.trace.Trace.{Trace}

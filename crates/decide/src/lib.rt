@@ -1,5 +1,6 @@
 // From the bytes of a job to the report on it, by a search over any store.
 #![tactic(auto)]
+
 ghost use Rattle.decide.specs.Reports.{Reports, Only, Accepted, Broken};
 ghost use Rattle.decide.specs.Searches.{reported};
 

@@ -1,5 +1,6 @@
 // Reads a job from standard input and writes the report on it.
 #![tactic(auto)]
+
 ghost use Rattle.std.specs.Prelude.{◌≤◌, length, IfOk};
 
 use decide::report_on;

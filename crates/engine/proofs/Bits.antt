@@ -1,5 +1,5 @@
 -- A number from its lowest bits.
-use Rattle.std.proofs.Common.{◌≡◌, ℕ, zero, suc, ◌+◌, ◌*◌, ◌^◌, ◌<◌, Bool, true, false, cond, Ok, Result, sym, refl, ap, ◌∙◌, ap₂, pow-suc, add-one, arith}
+use Rattle.std.proofs.Common.{◌≡◌, ℕ, zero, suc, ◌+◌, ◌*◌, ◌^◌, ◌<◌, Bool, true, false, cond, Ok, Result, sym, ap, ◌∙◌, ap₂, pow-suc, add-one, arith}
 use Rattle.store.specs.Fun.{bit}
 use Rattle.making.specs.declared.fault.Fault.{Fault}
 use Rattle.runs.specs.Numbers.{bits, number}

@@ -1,8 +1,7 @@
 -- What the session's numbers say.
-use Rattle.std.proofs.Common.{◌≡◌, ℕ, sym, ap, ◌∙◌, arith}
-use Rattle.runs.specs.Models.{Model, system}
+use Rattle.std.proofs.Common.{◌≡◌, ℕ, arith}
+use Rattle.runs.specs.Models.{Model}
 use Rattle.runs.specs.Search.{Verdict, unsafe, safe, open_yet}
-use Rattle.runs.specs.Search as search
 use Rattle.uses.specs.declared.verdict.Verdict.TheVariants as verdict
 use Rattle.uses.specs.Calls.{State, empty, loaded, tell, told}
 use Rattle.engine.specs.Keeping.{World, Sets, Keeps}

@@ -1,5 +1,5 @@
 -- The call that takes a circuit and its claims.
-use Rattle.std.proofs.Common.{◌≡◌, ℕ, ◌+◌, ◌*◌, ◌≤◌, cond, ◌&&◌, eqb, List, ◌∷◌, get_or, IsErrAnd, Ok, Err, Result, sym, refl, ap, ◌∙◌, subst, ⊎_elim, arith}
+use Rattle.std.proofs.Common.{◌≡◌, ℕ, ◌+◌, ◌*◌, ◌≤◌, cond, ◌&&◌, eqb, List, ◌∷◌, get_or, IsErrAnd, Ok, Err, Result, sym, ap, ◌∙◌, subst, ⊎_elim, arith}
 use Rattle.std.proofs.lemmas.Result.{err_from_is_err_and}
 use Rattle.std.proofs.lemmas.Bool.{cases_eq, cond-true, cond-false, eq-eqb, ne_eqb}
 use Rattle.store.specs.declared.figures.Figures.{Figures}
@@ -28,7 +28,7 @@ use Rattle.uses.specs.Calls.{State, empty, loaded, tell, told, load, stand, Even
 use Rattle.uses.specs.Uses.{Use, went_on, load_twice, load_wrong, load_full, loads}
 use Rattle.engine.specs.declared.described.Described.{Described}
 use Rattle.engine.specs.declared.inner.Inner.{Inner}
-use Rattle.engine.specs.Keeping.{World, Sets, Keeps}
+use Rattle.engine.specs.Keeping.{World, Keeps}
 use Rattle.engine.specs.Loading.{Understood, BeginsFrom}
 use Rattle.engine.proofs.Advances.{over}
 use Rattle.engine.proofs.Keepings.{tell_empty}

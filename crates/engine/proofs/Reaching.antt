@@ -1,5 +1,5 @@
 -- A use leads to no advance before the verdict is open.
-use Rattle.std.proofs.Common.{◌≡◌, ℕ, suc, ◌<◌, ◌≤◌, List, sym, subst, ⊎_elim, eq-or-lt_of_le, arith}
+use Rattle.std.proofs.Common.{◌≡◌, ℕ, suc, ◌≤◌, List, sym, subst, ⊎_elim, eq-or-lt_of_le, arith}
 use Rattle.runs.specs.Models.{system}
 use Rattle.runs.specs.Search.{open_yet, verdict, Reached}
 use Rattle.runs.specs.Systems.{System}

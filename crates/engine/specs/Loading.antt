@@ -1,10 +1,10 @@
 -- One load of a session.
 use Rattle.std.specs.Prelude.{◌≡◌, ℕ, cond, List, ◌==◌, slice_index_or}
 use Rattle.circuit.specs.Reading.{netlist}
-use Rattle.claim.specs.Grammar.{post, Known}
+use Rattle.claim.specs.Grammar.{post}
 use Rattle.claim.specs.Result.{used}
 use Rattle.making.specs.declared.parts.Built.{Built}
-use Rattle.runs.specs.Models.{Model, sizes, Describes}
+use Rattle.runs.specs.Models.{Model, Describes}
 use Rattle.uses.specs.declared.verdict.Verdict.TheVariants as verdict
 use Rattle.engine.specs.declared.described.Described.{Described}
 use Rattle.engine.specs.declared.inner.Inner.{Inner}

@@ -1,5 +1,6 @@
 // Sessions over any store.
 #![tactic(auto)]
+
 mod advance;
 mod described;
 mod finding;

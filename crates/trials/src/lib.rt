@@ -1,5 +1,6 @@
 // Tests over the whole, in tables, and what is known of makes and layers together.
 #![tactic(auto)]
+
 ghost use Rattle.std.specs.Prelude.{◌≡◌, ℕ, ◌≤◌, [], ◌∷◌};
 ghost use Rattle.nodes.specs.Facts.{pairs};
 ghost use Rattle.nodes.specs.Shows.{shown};

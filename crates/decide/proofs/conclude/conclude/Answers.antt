@@ -1,10 +1,8 @@
 use Rattle.std.proofs.Common.{◌≡◌, ℕ, Ok, Err, Result, sym, ap, ◌∙◌, subst}
 use Rattle.claim.specs.declared.code.Sizes.{Sizes}
 use Rattle.making.specs.declared.fault.Fault.{Fault}
-use Rattle.runs.specs.Models.{sizes}
 use Rattle.decide.specs.declared.report.Report.TheVariants as report
 use Rattle.uses.proofs.Checks.{never}
-use Rattle.decide.specs.Reports.{insides}
 use Rattle.decide.specs.Searches.{Conclusion, is_safe, is_unsafe}
 use Rattle.decide.proofs.Sessions.{told_safe, told_unsafe, handed_on}
 use Rattle.decide.proofs.conclude.conclude.Goals as goal

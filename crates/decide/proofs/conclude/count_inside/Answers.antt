@@ -1,10 +1,10 @@
-use Rattle.std.proofs.Common.{◌≡◌, ℕ, suc, ◌+◌, ◌^◌, ◌<◌, Bool, true, false, cond, Ok, Err, Result, sym, refl, ap, ◌∙◌, subst, add-zero, add-one, arith}
+use Rattle.std.proofs.Common.{◌≡◌, ℕ, ◌+◌, ◌^◌, ◌<◌, Bool, cond, Ok, Err, Result, sym, refl, ap, ◌∙◌, subst, add-zero, add-one, arith}
 use Rattle.making.specs.declared.fault.Fault.{Fault}
-use Rattle.runs.specs.Models.{Model, system}
+use Rattle.runs.specs.Models.{system}
 use Rattle.runs.specs.Search.{inside}
 use Rattle.uses.proofs.Checks.{never}
 use Rattle.engine.proofs.Spreads.{shifted}
-use Rattle.engine.specs.Keeping.{World, world}
+use Rattle.engine.specs.Keeping.{world}
 use Rattle.decide.specs.Reports.{tally}
 use Rattle.decide.specs.Searches.{Come}
 use Rattle.decide.proofs.Sessions.{told_by}

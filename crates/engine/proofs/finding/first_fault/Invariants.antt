@@ -1,4 +1,4 @@
-use Rattle.std.proofs.Common.{◌≡◌, ℕ, ◌^◌, ◌<◌, false}
+use Rattle.std.proofs.Common.{◌≡◌, ℕ, ◌<◌, false}
 use Rattle.runs.specs.Models.{Model, system}
 use Rattle.runs.specs.Search.{faulty}
 use Rattle.runs.specs.Systems.{State}

@@ -1,4 +1,4 @@
-use Rattle.std.proofs.Common.{◌≡◌, ℕ, ◌^◌, ◌<◌, false}
+use Rattle.std.proofs.Common.{◌≡◌, ℕ, ◌<◌, false}
 use Rattle.making.specs.Making.{Means}
 use Rattle.runs.specs.Valuations.{set_fn}
 use Rattle.runs.specs.Models.{Model, system}

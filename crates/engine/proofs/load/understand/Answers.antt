@@ -1,4 +1,4 @@
-use Rattle.std.proofs.Common.{◌≡◌, sym, refl, subst}
+use Rattle.std.proofs.Common.{sym, refl, subst}
 use Rattle.circuit.specs.Reading.{netlist}
 use Rattle.claim.specs.declared.code.Sizes.{Sizes}
 use Rattle.claim.specs.Faults.{Read, Refused}

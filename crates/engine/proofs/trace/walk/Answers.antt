@@ -1,4 +1,4 @@
-use Rattle.std.proofs.Common.{◌≡◌, ◌+◌, ◌<◌, ◌≤◌, length, get_or, replicate, sym, refl, ◌∙◌, subst, arith, length-set}
+use Rattle.std.proofs.Common.{◌≡◌, ◌+◌, ◌<◌, length, get_or, replicate, sym, refl, ◌∙◌, subst, arith, length-set}
 use Rattle.runs.specs.Models.{system}
 use Rattle.runs.specs.Search.{TraceTo}
 use Rattle.engine.proofs.Tracings.{starts, steps, finishes}

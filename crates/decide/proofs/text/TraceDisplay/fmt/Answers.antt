@@ -1,7 +1,7 @@
-use Rattle.std.proofs.Common.{◌≡◌, suc, ◌+◌, get_or, is_ok, sym, refl, ap, subst, add-one, arith}
+use Rattle.std.proofs.Common.{◌≡◌, suc, get_or, is_ok, ap, subst, add-one, arith}
 use Rattle.std.specs.Fmt.{HasWritten}
 use Rattle.std.proofs.Output.{writes_in_calls_nil, has_written_append}
-use Rattle.decide.specs.Texts.{steps_before, step_text}
+use Rattle.decide.specs.Texts.{steps_before}
 use Rattle.decide.proofs.text.TraceDisplay.fmt.Goals as goal
 
 pub loop-t-init : goal.loop-t-init

@@ -1,4 +1,4 @@
-use Rattle.std.proofs.Common.{◌≡◌, refl}
+use Rattle.std.proofs.Common.{refl}
 use Rattle.engine.specs.Keeping.{world}
 use Rattle.engine.proofs.Advances.{over, given_back, when_empty, when_settled, when_many, when_full, when_done}
 use Rattle.engine.proofs.Keepings.{never}

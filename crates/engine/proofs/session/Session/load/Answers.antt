@@ -1,4 +1,4 @@
-use Rattle.std.proofs.Common.{◌≡◌, refl}
+use Rattle.std.proofs.Common.{refl}
 use Rattle.engine.specs.Keeping.{world}
 use Rattle.engine.proofs.Advances.{over}
 use Rattle.engine.proofs.Keepings.{never}

@@ -1,4 +1,4 @@
-use Rattle.std.proofs.Common.{◌≡◌, ◌+◌, ◌<◌, ◌≤◌, length, get_or, Ok, sym, refl, ap, subst, ⊎_elim, arith}
+use Rattle.std.proofs.Common.{◌≡◌, ◌+◌, get_or, Ok, sym, refl, ap, subst, ⊎_elim, arith}
 use Rattle.uses.specs.Calls.{written}
 use Rattle.engine.specs.Keeping.{World, world}
 use Rattle.engine.proofs.Handing.{Handed, when_empty, when_not_unsafe, when_short, when_walked, when_lost}
