@@ -1,9 +1,10 @@
 -- What is made inside a diagram.
-use Rattle.std.specs.Prelude.{◌≡◌, ℕ, ◌-◌, ◌<◌, Bool, length, take, Some, None, Ok, Err, Option, Result}
+use Rattle.std.specs.Prelude.{◌≡◌, ℕ, ◌+◌, ◌-◌, ◌<◌, ◌≤◌, Bool, length, take, Some, None, Ok, Err, Option, Result}
 use Rattle.store.specs.Fun.{Fn, Same, fix}
 use Rattle.store.specs.Calls.{Reply}
 use Rattle.store.specs.declared.refusal.Refusal.{Refusal}
 use Rattle.store.specs.declared.refusal.Refusal.TheVariants.{Room}
+use Rattle.nodes.specs.Graph.{value, top}
 use Rattle.nodes.specs.Growth.{Ext, Built, Short}
 use Rattle.nodes.specs.Shows.{shown}
 use Rattle.diagram.specs.declared.Diagram.{Diagram}
@@ -11,7 +12,6 @@ use Rattle.diagram.specs.declared.full.Full.{Full}
 use Rattle.diagram.specs.declared.task.Task.{Task}
 use Rattle.diagram.specs.Shows.{listed, capacity, showing}
 use Rattle.diagram.specs.Asked.{operands, within, asked, peak, Posed, Before}
-use Rattle.diagram.specs.Remembered.{Settles}
 
 -- f, which depends on no variable above v, is built, or needs more records than there are
 abbrev pub Outcome : Diagram → Diagram → ℕ → Fn → Result ℕ Full → Type 0
@@ -29,7 +29,7 @@ Makes d task r e = Making d e (peak d.n (listed d) task) (asked (showing d) task
 
 -- a number that is there for the task, or a variable by which it is halved
 abbrev pub Settled : Diagram → Task → Option ℕ → Type 0
-Settled d task (Some r) = Settles d.n (listed d) (capacity d) task r
+Settled d task (Some r) = (r < length (listed d) + 2) × (peak d.n (listed d) task ≤ top d.n (listed d) r) × Same d.n (value (listed d) r) (asked (showing d) task)
 Settled d task None = (peak d.n (listed d) task < d.n) × Before (peak d.n (listed d) task) task
 
 -- task u is the task with variable v fixed to t
