@@ -10,7 +10,7 @@ use Rattle.engine.specs.declared.described.Described.{Described}
 use Rattle.engine.specs.declared.inner.Inner.{Inner}
 
 -- the circuit and the codes are those of the model that the file and the texts describe
-pub record Understood (width : ℕ) (file assumption property : List ℕ) (x : Described) : Type 0 where
+pub record Understood (width : ℕ) (file : List ℕ) (assumption : List ℕ) (property : List ℕ) (x : Described) : Type 0 where
   pub model : Model
   pub describes : Describes width file assumption property model
   pub circuit : netlist x.circuit ≡ model.circuit

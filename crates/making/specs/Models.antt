@@ -4,8 +4,8 @@ use Rattle.circuit.specs.Netlists.{Netlist}
 use Rattle.claim.specs.Grammar.{Tree, const}
 use Rattle.runs.specs.Models.{Model}
 
-abbrev pub model : Netlist → Tree → Tree → Model
-model c h q = record { circuit = c; assumption = h; property = q }
+abbrev pub model : (circuit : Netlist) (assumption : Tree) (property : Tree) → Model
+model circuit assumption property = record { circuit = circuit; assumption = assumption; property = property }
 
 -- a circuit alone: its lines are those of each model of it
 abbrev pub alone : Netlist → Model

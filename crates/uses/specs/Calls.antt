@@ -31,7 +31,7 @@ told empty = verdict.Empty
 told (loaded m j) = tell (search.verdict (system m) j)
 
 pub data Call : Type 0 where
-  load : (file assumption property : List ℕ) → Result Verdict Fault → Call
+  load : (file : List ℕ) (assumption : List ℕ) (property : List ℕ) → Result Verdict Fault → Call
   advance : Result Verdict Fault → Call
   ask : Verdict → Call
   -- the arrays as they are handed in, and as they come back
@@ -59,7 +59,7 @@ abbrev pub written : ℕ → (ℕ → ℕ) → List ℕ → List ℕ
 written n f xs = map f (range_with_len 0 n) ++ drop n xs
 
 -- what the checks of a load give, for a store of `width` variables: the circuit's, then the whole assumption's, then the whole property's
-pub data Checked (width : ℕ) (file assumption property : List ℕ) : Result Model Fault → Type 0 where
+pub data Checked (width : ℕ) (file : List ℕ) (assumption : List ℕ) (property : List ℕ) : Result Model Fault → Type 0 where
   right : {m : Model} → Describes width file assumption property m → Checked width file assumption property (Ok m)
   wrong_circuit : {e : Refusal} → reading width file ≡ Err e → Checked width file assumption property (Err (fault.Circuit e))
   wrong_assumption : {c : Netlist} {f : Misreading} → reading width file ≡ Ok c → Refused assumption (sizes c) f
