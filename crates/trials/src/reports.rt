@@ -117,7 +117,7 @@ fn refusals(rt: HostRuntime) -> Result<(), Fail> {
 }
 
 #[test]
-fn frames(rt: HostRuntime) -> Result<(), Fail> {
+fn refused_frames(rt: HostRuntime) -> Result<(), Fail> {
     let heap = rt.alloc();
     for count in [0, 9, 10, 21] {
         let text = text_of(heap, &JOB[0..count], 100)?;
