@@ -1,4 +1,5 @@
-use Rattle.std.proofs.Common.{sym, subst}
+use Rattle.std.proofs.Common.{◌≡◌, ℕ, List, length, sym, subst, rules}
+use Rattle.circuit.specs.Netlists.{Netlist}
 use Rattle.circuit.specs.Reading.{netlist}
 use Rattle.claim.specs.declared.code.Sizes.{Sizes}
 use Rattle.claim.specs.Faults.{Read, Refused}
@@ -28,13 +29,18 @@ returns-in-Err-read c =
     (bad_property (subst (λ (z : Sizes). Read p.assumption z a.tree) c.sizes_of-sizes.ensures a.read)
     (subst (λ (z : Sizes). Refused p.property z c.in-Err-read.misreading) c.sizes_of-sizes.ensures c.in-Err-read.ensures.answer))
 
+-- the sizes that are said are those of the circuit
+sized : (bs : List ℕ) (z : Netlist) (n m k : ℕ) → n ≡ z.registers → m ≡ z.inputs → k ≡ length z.gates
+    → Reports bs (report.Read z.registers z.inputs (length z.gates)) → Reports bs (report.Read n m k)
+sized bs z n m k a b d = subst (Reports bs) (λ i. report.Read (sym a i) (sym b i) (sym d i))
+
 pub returns : goal.returns
 returns c =
     let p = parts c.in_ok-frame.frame in
     let k = c.in_ok-circuit.circuit in
     let a = c.in_default.ensures.answer in
     let b = c.in_default-read.ensures.answer in
-    subst (Reports c.args.job.now) (λ i. report.Read (sym c.registers.ensures i) (sym c.inputs.ensures i) (sym c.gate_count.ensures i))
+    sized c.args.job.now (netlist k) _ _ _ (search rules) (search rules) (search rules)
     (by_claims c.args.job.now p (netlist k) _ c.in_ok-frame.ensures c.in_ok-circuit.ensures.reads
     (both_read (subst (λ (z : Sizes). Read p.assumption z a.tree) c.sizes_of-sizes.ensures a.read)
     (subst (λ (z : Sizes). Read p.property z b.tree) c.sizes_of-sizes.ensures b.read)))
