@@ -14,7 +14,7 @@ ghost use Rattle.circuit.specs.Steps.{Sized, drawn, seen};
 pub mod circuit;
 pub mod gate;
 pub mod refusal;
-mod sizes;
+pub mod sizes;
 
 use circuit::Circuit;
 use gate::Gate;
@@ -89,8 +89,8 @@ fn read_sizes(file: &[u8]) -> Result<Sizes, Refusal>
         return Err(Refusal::Size(2));
     }
     Ok(Sizes {
-        registers: registers as u8,
-        inputs: inputs as u8,
+        registers,
+        inputs,
         gates,
     })
 }
@@ -185,7 +185,7 @@ pub fn read(file: &[u8], width: u8) -> Result<Circuit, Refusal>
     if file.len() != 6 + 4 * sizes.gates as usize {
         return Err(Refusal::Length(file.len()));
     }
-    let needed = 2 * sizes.registers + sizes.inputs;
+    let needed = (2 * sizes.registers + sizes.inputs) as u8;
     if width < needed {
         return Err(Refusal::Width(needed));
     }
@@ -195,8 +195,8 @@ pub fn read(file: &[u8], width: u8) -> Result<Circuit, Refusal>
         return Err(Refusal::Start(sizes.gates - 1));
     }
     Ok(Circuit {
-        registers: sizes.registers,
-        inputs: sizes.inputs,
+        registers: sizes.registers as u8,
+        inputs: sizes.inputs as u8,
         count: sizes.gates,
         gates,
     })

@@ -1,7 +1,7 @@
-// The sizes of a circuit file, each in its range.
-#[derive(Clone, Copy)]
+// How many registers, inputs and gates there are.
+#[derive(Clone, Copy, PartialEq, Eq, Debug)]
 pub struct Sizes {
-    pub registers: u8,
-    pub inputs: u8,
+    pub registers: u16,
+    pub inputs: u16,
     pub gates: u16,
 }

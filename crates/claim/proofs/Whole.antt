@@ -5,7 +5,7 @@ use Rattle.claim.specs.declared.code.Act.{Act}
 use Rattle.claim.specs.declared.code.Act.TheVariants.{Constant, Name, Not, And, Or}
 use Rattle.claim.specs.declared.code.Code.{Code}
 use Rattle.claim.specs.declared.code.Sort.{Sort}
-use Rattle.claim.specs.declared.code.Sizes.{Sizes}
+use Rattle.circuit.specs.declared.sizes.Sizes.{Sizes}
 use Rattle.claim.specs.declared.codes.Codes.{Codes}
 use Rattle.claim.specs.declared.fault.Fault.{Fault}
 use Rattle.claim.specs.declared.fault.Fault.TheVariants as fault

@@ -1,6 +1,6 @@
 -- Texts for a circuit with one register, one input and two gates.
 use Rattle.std.specs.Prelude.{ℕ, List, [], ◌++◌, replicate, codes}
-use Rattle.claim.specs.declared.code.Sizes.{Sizes}
+use Rattle.circuit.specs.declared.sizes.Sizes.{Sizes}
 use Rattle.claim.specs.declared.fault.Fault.TheVariants.{Claim, Name, Deep}
 use Rattle.claim.specs.Grammar.{Tree}
 use Rattle.claim.specs.Faults.{Read, Refused}

@@ -5,7 +5,7 @@ use Rattle.claim.specs.declared.code.Sort.TheVariants.{Register, Input, Gate}
 use Rattle.claim.specs.declared.code.Act.{Act}
 use Rattle.claim.specs.declared.code.Act.TheVariants.{Constant, Name, Not, And, Or}
 use Rattle.claim.specs.declared.code.Code.{Code}
-use Rattle.claim.specs.declared.code.Sizes.{Sizes}
+use Rattle.circuit.specs.declared.sizes.Sizes.{Sizes}
 use Rattle.claim.specs.Tokens.{bang, amp, bar, lparen, rparen, constant, name, end, Tok, tok}
 
 pub data Level : Type 0 where

@@ -1,7 +1,7 @@
 -- What a reading answers.
 use Rattle.std.specs.Prelude.{◌≡◌, ℕ, ◌≤◌, List, length, take}
 use Rattle.claim.specs.declared.code.Code.{Code}
-use Rattle.claim.specs.declared.code.Sizes.{Sizes}
+use Rattle.circuit.specs.declared.sizes.Sizes.{Sizes}
 use Rattle.claim.specs.declared.codes.Codes.{Codes}
 use Rattle.claim.specs.Grammar.{Tree, post, operators, Known}
 use Rattle.claim.specs.Faults.{Read}

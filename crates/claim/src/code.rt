@@ -22,11 +22,3 @@ pub struct Code {
     pub act: Act,
     pub place: u16,
 }
-
-// How many registers, inputs and gates there are.
-#[derive(Clone, Copy)]
-pub struct Sizes {
-    pub registers: u16,
-    pub inputs: u16,
-    pub gates: u16,
-}

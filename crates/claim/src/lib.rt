@@ -15,6 +15,7 @@ mod lexer;
 mod reader;
 mod stack;
 
+use circuit::sizes::Sizes;
 use code::*;
 use codes::Codes;
 use fault::Fault;

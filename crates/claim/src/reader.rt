@@ -9,6 +9,7 @@ ghost use Rattle.claim.specs.Reading.{ahead, Ready, Reach, Taken, Stopped};
 use crate::code::*;
 use crate::fault::Fault;
 use crate::lexer::*;
+use circuit::sizes::Sizes;
 
 const DEEPEST: usize = 16;
 

@@ -3,6 +3,7 @@
 
 #[cfg(test)]
 mod tests {
+    use circuit::sizes::Sizes;
     use claim::code::*;
     use claim::eval::truth;
     use claim::*;

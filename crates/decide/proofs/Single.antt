@@ -5,7 +5,7 @@ use native.Mathlib.Bridge.{le_prop}
 use native.Mathlib.Nat.{ℕ_set}
 use Rattle.std.proofs.lemmas.Bool.{cases_lt}
 use Rattle.store.specs.Meaning.{Shown}
-use Rattle.claim.specs.declared.code.Sizes.{Sizes}
+use Rattle.circuit.specs.declared.sizes.Sizes.{Sizes}
 use Rattle.making.specs.declared.fault.Fault.{Fault as Refusal}
 use Rattle.runs.specs.Models.{Model, system, sizes, Describes}
 use Rattle.runs.specs.Search.{unsafe, safe, open_yet, verdict, Reached}

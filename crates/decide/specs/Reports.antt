@@ -1,7 +1,7 @@
 -- What is said of the bytes of a job, by a store that shows s at the start.
 use Rattle.std.specs.Prelude.{◌≡◌, ℕ, zero, suc, ◌+◌, ◌^◌, Bool, cond, ◌⊎◌, List, replicate, Ok, Err, slice_index}
 use Rattle.store.specs.Meaning.{Shown}
-use Rattle.claim.specs.declared.code.Sizes.{Sizes}
+use Rattle.circuit.specs.declared.sizes.Sizes.{Sizes}
 use Rattle.making.specs.declared.fault.Fault.{Fault as Refusal}
 use Rattle.making.specs.declared.fault.Fault.TheVariants.{Room}
 use Rattle.making.specs.Making.{Item, Runs, Stops}

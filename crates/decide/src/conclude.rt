@@ -7,7 +7,7 @@ ghost use Rattle.decide.specs.Searches.{sizes_at, CountsInside, HandsOut, Decide
 use super::report::Report;
 use super::trace::Trace;
 use circuit::number_at;
-use claim::code::Sizes;
+use circuit::sizes::Sizes;
 use engine::session::Session;
 use making::fault::Fault;
 use store::Store;

@@ -1,6 +1,6 @@
 use super::fault::Fault;
 use super::trace::Trace;
-use claim::code::Sizes;
+use circuit::sizes::Sizes;
 
 // What is said of a job.
 #[derive(Clone, Copy)]

@@ -10,7 +10,7 @@ use super::described::Described;
 use super::inner::Inner;
 use super::session::Session;
 use circuit::circuit::Circuit;
-use claim::code::Sizes;
+use circuit::sizes::Sizes;
 use making::build;
 use making::fault::Fault;
 use making::parts::Built;

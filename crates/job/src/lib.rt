@@ -14,7 +14,7 @@ pub mod report;
 
 use circuit::circuit::Circuit;
 use circuit::number_at;
-use claim::code::Sizes;
+use circuit::sizes::Sizes;
 use fault::Fault;
 use frame::Frame;
 use report::Report;

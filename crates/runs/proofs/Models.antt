@@ -7,7 +7,7 @@ use Rattle.circuit.specs.Netlists.{Netlist, gate, gate_line, lines, next_line, i
 use Rattle.circuit.specs.Lines.{literal, conjunction, Values, line, extended}
 use Rattle.circuit.specs.Rules.{Determined}
 use Rattle.circuit.proofs.Lines.{determined}
-use Rattle.claim.specs.declared.code.Sizes.{Sizes}
+use Rattle.circuit.specs.declared.sizes.Sizes.{Sizes}
 use Rattle.claim.specs.declared.code.Sort.{Sort}
 use Rattle.claim.specs.declared.code.Sort.TheVariants.{Register, Input, Gate}
 use Rattle.claim.specs.Grammar.{Tree, const, named, neg, conj, disj, limit, Known}

@@ -4,7 +4,7 @@ use Rattle.store.specs.Fun.{some}
 use Rattle.circuit.specs.Files.{says}
 use Rattle.circuit.specs.Lines.{line, touching}
 use Rattle.circuit.specs.Rules.{reading}
-use Rattle.claim.specs.declared.code.Sizes.{Sizes}
+use Rattle.circuit.specs.declared.sizes.Sizes.{Sizes}
 use Rattle.claim.specs.declared.code.Sort.{Sort}
 use Rattle.claim.specs.declared.code.Sort.TheVariants.{Register, Input}
 use Rattle.claim.specs.Tokens.{tokens}

@@ -4,7 +4,7 @@ use Rattle.store.specs.Fun.{bit}
 use Rattle.circuit.specs.Netlists.{Netlist, gate_line, next_line, init_line}
 use Rattle.circuit.specs.Lines.{Values, line}
 use Rattle.circuit.specs.Rules.{Sound, reading}
-use Rattle.claim.specs.declared.code.Sizes.{Sizes}
+use Rattle.circuit.specs.declared.sizes.Sizes.{Sizes}
 use Rattle.claim.specs.declared.code.Sort.{Sort}
 use Rattle.claim.specs.declared.code.Sort.TheVariants.{Register, Input, Gate}
 use Rattle.claim.specs.Grammar.{Tree, Known}

@@ -1,7 +1,7 @@
 use Rattle.std.proofs.Common.{◌≡◌, ℕ, List, length, sym, subst, rules}
 use Rattle.circuit.specs.Netlists.{Netlist}
 use Rattle.circuit.specs.Reading.{netlist}
-use Rattle.claim.specs.declared.code.Sizes.{Sizes}
+use Rattle.circuit.specs.declared.sizes.Sizes.{Sizes}
 use Rattle.claim.specs.Faults.{Read, Refused}
 use Rattle.job.specs.declared.report.Report.TheVariants as report
 use Rattle.job.specs.declared.frame.Frame.{Frame}

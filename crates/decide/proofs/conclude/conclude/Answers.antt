@@ -1,5 +1,5 @@
 use Rattle.std.proofs.Common.{◌≡◌, ℕ, Ok, Err, Result, sym, ap, ◌∙◌, subst}
-use Rattle.claim.specs.declared.code.Sizes.{Sizes}
+use Rattle.circuit.specs.declared.sizes.Sizes.{Sizes}
 use Rattle.making.specs.declared.fault.Fault.{Fault}
 use Rattle.decide.specs.declared.report.Report.TheVariants as report
 use Rattle.uses.proofs.Checks.{never}

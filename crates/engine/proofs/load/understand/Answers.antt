@@ -1,6 +1,6 @@
 use Rattle.std.proofs.Common.{sym, refl, subst}
 use Rattle.circuit.specs.Reading.{netlist}
-use Rattle.claim.specs.declared.code.Sizes.{Sizes}
+use Rattle.circuit.specs.declared.sizes.Sizes.{Sizes}
 use Rattle.claim.specs.Faults.{Read, Refused}
 use Rattle.uses.specs.Calls.{wrong_circuit, wrong_assumption, wrong_property}
 use Rattle.engine.proofs.load.understand.Goals as goal
