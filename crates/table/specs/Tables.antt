@@ -1,7 +1,7 @@
 -- Truth tables of 128 bytes: the value at w is bit w mod 8 of byte w div 8.
-use Rattle.std.specs.Prelude.{ℕ, zero, suc, ◌+◌, ◌*◌, ◌/◌, ◌%◌, ◌^◌, cond, ◌&&◌, map, nat_lt, slice_index}
+use Rattle.std.specs.Prelude.{◌≡◌, ℕ, zero, suc, ◌+◌, ◌*◌, ◌/◌, ◌%◌, ◌^◌, ◌<◌, Bool, Some, None, Option, cond, ◌&&◌, map, nat_lt, slice_index}
 use Rattle.std.specs.List.{range_with_len}
-use Rattle.store.specs.Fun.{Fn, bit}
+use Rattle.store.specs.Fun.{Fn, Same, bit}
 use Rattle.table.specs.declared.truths.Truths.{Truths}
 
 -- the function of a table
@@ -20,3 +20,12 @@ within n f w = nat_lt w (2 ^ n) && f w
 -- the table of f, of n variables
 unfoldable pub table : ℕ → Fn → Truths
 table n f = record { bytes = map (λ j. packed 8 (8 * j) (within n f)) (range_with_len 0 128) }
+
+-- the constant that f is as a function of n variables, if it is one
+abbrev pub Constant : ℕ → Fn → Option Bool → Type 0
+Constant n f (Some b) = Same n f (λ _. b)
+Constant n f None = (b : Bool) → Same n f (λ _. b) → ⊥
+
+-- a closure whose calls are `post` computes f, as a function of n variables
+abbrev pub Computes : ℕ → (ℕ → Bool → Type 0) → Fn → Type 0
+Computes n post f = (w : ℕ) (r : Bool) → w < 2 ^ n → post w r → r ≡ f w
