@@ -1,5 +1,5 @@
 -- The table of a function, and the function of a table.
-use Rattle.std.proofs.Common.{◌≡◌, ℕ, zero, suc, ◌+◌, ◌-◌, ◌*◌, ◌/◌, ◌%◌, ◌^◌, ◌<◌, ◌≤◌, Bool, true, false, cond, ◌&&◌, List, length, get_or, ◌≢◌, ltb, map, sym, subst, refl, ap, ◌∙◌, ap₂, ⊎_elim, pow-suc, arith, pow_mono}
+use Rattle.std.proofs.Common.{◌≡◌, ℕ, zero, suc, ◌+◌, ◌-◌, ◌*◌, ◌/◌, ◌%◌, ◌^◌, ◌<◌, ◌≤◌, Bool, true, false, cond, ◌&&◌, List, length, get_or, ◌≢◌, ltb, sym, subst, refl, ap, ◌∙◌, ap₂, ⊎_elim, pow-suc, arith, pow_mono}
 use mathlib.Core.Path.{fun_ext}
 use mir.Val.{bool_byte}
 use Rattle.std.specs.Array.{IsFromFnResultFrom}
@@ -11,7 +11,7 @@ use Rattle.std.proofs.lemmas.Bool.{cases_Bool, cases_lt, ltb-true, lt-ltb}
 use Rattle.std.proofs.lemmas.Nat.{pow_pos}
 use denote.Param.Members.{Mut}
 use Rattle.store.specs.Fun.{Fn, bit, Same}
-use Rattle.table.specs.Tables.{truth, packed, within, table, Constant}
+use Rattle.table.specs.Tables.{truth, packed, packed_truths, within, table, Constant}
 
 first_bit : (t : Bool) (p : ℕ) → bit 0 (2 * p + cond t 1 0) ≡ t
 first_bit true p = let e : (2 * p + 1) % 2 ≡ 1 = omega arith in rw e refl
@@ -57,7 +57,7 @@ bit_packed (suc m) w (suc k) g h =
 
 -- a function below 2^n is its table's
 pub truth_table : (n : ℕ) (f : Fn) → n ≤ 10 → Same n (truth (table n f)) f
-unfolding table
+unfolding packed_truths
 truth_table n f few w h =
     let p : 2 ^ n ≤ 2 ^ 10 = pow_mono few in
     let low : w / 8 < 128 = omega arith in
@@ -73,8 +73,7 @@ within_same n f g e = fun_ext (λ w. ⊎_elim
 
 -- a table goes by the function
 pub table_same : (n : ℕ) (f g : Fn) → Same n f g → table n f ≡ table n g
-unfolding table
-table_same n f g e = ap (λ (h : Fn). record { bytes = map (λ j. packed 8 (8 * j) h) (range_with_len 0 128) }) (within_same n f g e)
+table_same n f g e = ap packed_truths (within_same n f g e)
 
 -- the constant that g is, by whether its values from 1 on are its first
 pub constant_told : (n : ℕ) (g : Fn) (first r : Bool) → first ≡ g 0

@@ -1,7 +1,7 @@
 // One function of at most 10 variables.
-ghost use Rattle.std.specs.Prelude.{◌≡◌, ◌*◌, ◌<◌, ◌≤◌};
+ghost use Rattle.std.specs.Prelude.{◌≡◌, ◌*◌, ◌^◌, ◌<◌, ◌≤◌};
 ghost use Rattle.store.specs.Fun.{Fn};
-ghost use Rattle.table.specs.Tables.{truth, packed, within, table, Constant, Computes};
+ghost use Rattle.table.specs.Tables.{truth, packed, packed_truths, table, Constant, Computes};
 ghost use Rattle.table.specs.Identity.{truths_exact};
 
 use records::entry::Entry;
@@ -23,10 +23,19 @@ impl Truths {
     pub(super) fn of<F: Fn(u32) -> bool>(n: u8, f: F) -> Truths
         requires few { n ≤ 10 }
         requires callable { F.IsAlwaysCallable f }
-        ensures { (g : Fn) → Computes n (F.post f) g → result ≡ table n g }
+        ensures { (g : Fn) → Computes (2 ^ n) (F.post f) g → result ≡ table n g }
+    {
+        let size = 1 << n;
+        Truths::packed(|w| w < size && f(w))
+    }
+
+    // The values of f below 1024.
+    fn packed<F: Fn(u32) -> bool>(f: F) -> Truths
+        requires callable { F.IsAlwaysCallable f }
+        ensures { (g : Fn) → Computes 1024 (F.post f) g → result ≡ packed_truths g }
     {
         Truths {
-            bytes: array::from_fn(|j| byte(n, &f, j)),
+            bytes: array::from_fn(|j| byte(&f, j)),
         }
     }
 
@@ -48,18 +57,15 @@ impl Truths {
     }
 }
 
-// Byte j of the table of f, of n variables.
-fn byte<F: Fn(u32) -> bool>(n: u8, f: &F, j: usize) -> u8
-    requires few { n ≤ 10 }
+// Byte j of those values.
+fn byte<F: Fn(u32) -> bool>(f: &F, j: usize) -> u8
     requires below { j < 128 }
     requires callable { F.IsAlwaysCallable f.now }
-    ensures { (g : Fn) → Computes n (F.post f.now) g → result ≡ packed 8 (8 * j) (within n g) }
+    ensures { (g : Fn) → Computes 1024 (F.post f.now) g → result ≡ packed 8 (8 * j) g }
 {
     let mut byte = 0;
     for k in (0..8).rev() {
-        let w = 8 * j as u32 + k;
-        let truth = w < 1 << n && f(w);
-        byte = 2 * byte + truth as u8;
+        byte = 2 * byte + f(8 * j as u32 + k) as u8;
     }
     byte
 }
