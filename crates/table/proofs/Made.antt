@@ -127,8 +127,11 @@ module _ (n : ℕ) (xs : List Truths) (capacity : ℕ) (few : n ≤ 10) (fits : 
     placed_answers (Err _) ys h =
         (ap (λ zs. shown n zs capacity) h.2, omega (arith, price_one n xs capacity f (not_held h.1), h.0), omega (arith, h.0))
 
--- what is then so of a store d whose list has become m, by the look-up of x, the table of f
-module _ (d : Table) (m : Records Truths) (f : Fn) (mixed : (b : Bool) → Same d.n f (λ _. b) → ⊥) (x : Truths) (is : x ≡ table d.n f) (p : Result ℕ Full) (h : Places d.list x p m) where
+-- what is then so of a store d whose list has become m, by the look-up of x, the table of f, which is no constant
+module _ (d : Table) (m : Records Truths) (f : Fn) (x : Truths) (is : x ≡ table d.n f) (none : Constant d.n (truth x) None) (p : Result ℕ Full) (h : Places d.list x p m) where
+  mixed : (b : Bool) → Same d.n f (λ _. b) → ⊥
+  mixed = constant_of d.n f x None d.few is none
+
   looked : LookedUp (entries d.list) (room d.list) (table d.n f) p (entries m)
   looked = subst (λ (t : Truths). LookedUp (entries d.list) (room d.list) t p (entries m)) is h.0
 

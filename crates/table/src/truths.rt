@@ -64,6 +64,7 @@ fn byte<F: Fn(u32) -> bool>(f: &F, j: usize) -> u8
     ensures { (g : Fn) → Computes 1024 (F.post f.now) g → result ≡ packed 8 (8 * j) g }
 {
     let mut byte = 0;
+    // A `for`: of a fold, `fold-requires-clause-callable` stayed open, that its closure may be called at each turn.
     for k in (0..8).rev() {
         byte = 2 * byte + f(8 * j as u32 + k) as u8;
     }

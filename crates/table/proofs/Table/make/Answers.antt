@@ -1,4 +1,4 @@
-use Rattle.std.proofs.Common.{Ok, Err, Some, None, arith}
+use Rattle.std.proofs.Common.{Ok, Err, Some, arith}
 use Rattle.records.specs.Contents.{entries, room}
 use Rattle.records.proofs.Contents.{entries_fit}
 use Rattle.store.specs.Tasks.{asked}
@@ -18,38 +18,33 @@ invariant_of-self c =
     let d = c.args.self.now in
     let f = asked (shows d) c.args.task in
     let r = c.find_or_add in
-    let mixed = constant_of d.n f c.table-table.result None d.few c.table-table.ensures c.in_default.ensures in
     record {
       some = d.some;
       few = d.few;
       small = omega (arith, d.small, r.ensures.1);
-      apart = sound_after d r.new.self f mixed c.table-table.result c.table-table.ensures r.result r.ensures;
+      apart = sound_after d r.new.self f c.table-table.result c.table-table.ensures c.in_default.ensures r.result r.ensures;
     }
 
 pub overflow_cast-result-in-Ok : goal.overflow_cast-result-in-Ok
 overflow_cast-result-in-Ok c =
     let d = c.args.self.now in
     let f = asked (shows d) c.args.task in
-    let mixed = constant_of d.n f c.table-table.result None d.few c.table-table.ensures c.in_default.ensures in
-    omega (arith, narrow_after d c.find_or_add.new.self f mixed c.table-table.result c.table-table.ensures (Ok c.in-Ok.k) c.in-Ok.ensures)
+    omega (arith, narrow_after d c.find_or_add.new.self f c.table-table.result c.table-table.ensures c.in_default.ensures (Ok c.in-Ok.k) c.in-Ok.ensures)
 
 pub overflow_add-result : goal.overflow_add-result
 overflow_add-result c =
     let d = c.args.self.now in
     let f = asked (shows d) c.args.task in
-    let mixed = constant_of d.n f c.table-table.result None d.few c.table-table.ensures c.in_default.ensures in
-    omega (arith, narrow_after d c.find_or_add.new.self f mixed c.table-table.result c.table-table.ensures (Ok c.in-Ok.k) c.in-Ok.ensures)
+    omega (arith, narrow_after d c.find_or_add.new.self f c.table-table.result c.table-table.ensures c.in_default.ensures (Ok c.in-Ok.k) c.in-Ok.ensures)
 
 pub returns-in-Ok : goal.returns-in-Ok
 returns-in-Ok c =
     let d = c.args.self.now in
     let f = asked (shows d) c.args.task in
-    let mixed = constant_of d.n f c.table-table.result None d.few c.table-table.ensures c.in_default.ensures in
-    answers_after d c.find_or_add.new.self f mixed c.table-table.result c.table-table.ensures (Ok c.in-Ok.k) c.in-Ok.ensures
+    answers_after d c.find_or_add.new.self f c.table-table.result c.table-table.ensures c.in_default.ensures (Ok c.in-Ok.k) c.in-Ok.ensures
 
 pub returns-in-Err : goal.returns-in-Err
 returns-in-Err c =
     let d = c.args.self.now in
     let f = asked (shows d) c.args.task in
-    let mixed = constant_of d.n f c.table-table.result None d.few c.table-table.ensures c.in_default.ensures in
-    answers_after d c.find_or_add.new.self f mixed c.table-table.result c.table-table.ensures (Err c.in-Err.field-0) c.in-Err.ensures
+    answers_after d c.find_or_add.new.self f c.table-table.result c.table-table.ensures c.in_default.ensures (Err c.in-Err.field-0) c.in-Err.ensures
