@@ -1,9 +1,11 @@
 -- The calls of a layer, by those of the store below.
-use Rattle.std.proofs.Common.{◌≡◌, ℕ, Bool, true, false, ◌&&◌, ltb, List, [], Result, sym, ap, ◌∙◌, subst, ⊎_elim, arith}
+use Rattle.std.proofs.Common.{◌≡◌, ℕ, Bool, true, false, ◌&&◌, ltb, List, [], Result, Option, MatchOption, Some, None, sym, ap, ◌∙◌, subst, ⊎_elim, arith}
 use mathlib.Core.Path.{fun_ext}
 use Rattle.std.proofs.lemmas.Bool.{cases_Bool, cases_lt, ltb-true, lt-ltb, and_parts, cond-false}
 use Rattle.store.specs.declared.refusal.Refusal.{Refusal}
 use Rattle.store.specs.declared.figures.Figures.{Figures}
+use Rattle.std.specs.Option.{UnwrapsOrElse}
+use Rattle.order.specs.declared.order.Order.{Order}
 use Rattle.store.specs.Fun.{bit, fix}
 use Rattle.store.specs.Meaning.{Shown, Lawful}
 use Rattle.store.specs.Calls.{Reply, MakesVariable, MakesCofactor, TellsValue, TellsFigures}
@@ -69,3 +71,10 @@ order_empty n i = cond-false _ 0 i (⊎_elim
 -- a list that is no order gives what the empty list gives
 pub none_ordered : (xs : List ℕ) (s : Shown) → is_order s.vars xs ≡ false → ordered [] s ≡ ordered xs s
 none_ordered xs s e = ap (λ (p : ℕ → ℕ). renamed p s) (fun_ext (λ i. order_empty s.vars i ∙ sym (order_none s.vars xs e i)))
+
+-- the order that is found, or the one of no variables
+pub order_or_none : (xs : List ℕ) (s : Shown) (n : ℕ) → n ≡ s.vars → (r : Option Order) (o : Order)
+    → MatchOption r (is_order n xs ≡ false) (λ q. (is_order n xs ≡ true) × (q.places.items ≡ xs)) → UnwrapsOrElse r (λ q. q.places.items ≡ []) o
+    → ordered o.places.items s ≡ ordered xs s
+order_or_none xs s n e (Some q) o h u = ap (λ (r : Order). ordered r.places.items s) u ∙ ap (λ ys. ordered ys s) h.1
+order_or_none xs s n e None o h u = ap (λ ys. ordered ys s) u ∙ none_ordered xs s (subst (λ (k : ℕ). is_order k xs ≡ false) e h)

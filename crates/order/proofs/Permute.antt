@@ -1,12 +1,19 @@
 -- Valuations under a permutation of the variables.
-use Rattle.std.proofs.Common.{◌≡◌, ℕ, zero, suc, ◌^◌, ◌<◌, ◌≤◌, Bool, sym, ap, ◌∙◌, subst, ⊎_elim, arith}
+use Rattle.std.proofs.Common.{◌≡◌, ℕ, zero, suc, ◌^◌, ◌<◌, ◌≤◌, Bool, [], ◌∷◌, refl, sym, ap, ◌∙◌, subst, ⊎_elim, arith}
 use Rattle.std.proofs.lemmas.Bool.{cases_eq}
+use Rattle.std.specs.List.{range_with_len, fold}
+use Rattle.std.proofs.lemmas.List.Sums.{fold-append}
 use Rattle.store.specs.Fun.{Fn, bit, fixed, fix, Same}
 use Rattle.store.proofs.Bit.{bit_fixed_same, bit_fixed_other, fixed_lt}
 use Rattle.order.specs.Renaming.{placed, taken, above, below}
 use Rattle.order.specs.Facts.{StandsFor}
 use Rattle.order.proofs.Bits.{bit_ext, fixed_ge}
-use Rattle.order.proofs.Lists.{Permutes}
+use Rattle.order.proofs.Lists.{range_more, Permutes}
+
+-- the valuation below, made bit after bit
+pub placed_range : (p : ℕ → ℕ) (n w : ℕ) → fold (λ v i. fixed (p i) (bit i w) v) w (range_with_len 0 n) ≡ placed p n w
+placed_range p zero w = refl
+placed_range p (suc n) w = ap (fold (λ v i. fixed (p i) (bit i w) v) w) (range_more n) ∙ fold-append _ w (range_with_len 0 n) (n ∷ []) ∙ ap (λ v. fixed (p n) (bit n w) v) (placed_range p n w)
 
 bit_taken : (p : ℕ → ℕ) (m i v : ℕ) → i < m → bit i (taken p m v) ≡ bit (p i) v
 bit_taken p zero i v h = absurd (omega arith)

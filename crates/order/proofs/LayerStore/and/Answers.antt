@@ -1,4 +1,4 @@
-use Rattle.std.proofs.Common.{true, ◌&&◌, take}
+use Rattle.std.proofs.Common.{true, ◌&&◌}
 use Rattle.order.proofs.Permute.{above_stands}
 use Rattle.order.proofs.Lists.{permutes_order}
 use Rattle.order.proofs.Rename.{reply_ordered}
@@ -9,5 +9,5 @@ returns g c =
     let l = c.args.self.now in
     let s = g.S.Store.shows l.store in
     let e = c.and.ensures in
-    reply_ordered (take l.order.count l.order.places) s e.lawful (g.S.Store.shows c.and.new.self) (s.held c.args.a && s.held c.args.b) true _ (λ v. s.value c.args.a v && s.value c.args.b v) c.and.result
-    (λ _. above_stands s.vars _ (permutes_order s.vars (take l.order.count l.order.places)) (λ v. s.value c.args.a v && s.value c.args.b v)) e
+    reply_ordered l.order.places.items s e.lawful (g.S.Store.shows c.and.new.self) (s.held c.args.a && s.held c.args.b) true _ (λ v. s.value c.args.a v && s.value c.args.b v) c.and.result
+    (λ _. above_stands s.vars _ (permutes_order s.vars l.order.places.items) (λ v. s.value c.args.a v && s.value c.args.b v)) e

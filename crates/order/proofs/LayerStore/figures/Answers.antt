@@ -1,4 +1,4 @@
-use Rattle.std.proofs.Common.{take, ap}
+use Rattle.std.proofs.Common.{ap}
 use Rattle.order.specs.Renaming.{ordered}
 use Rattle.order.proofs.Calls.{figures_ordered}
 use Rattle.order.proofs.LayerStore.figures.Goals as goal
@@ -7,6 +7,6 @@ pub returns : goal.returns
 returns g c =
     let l = c.args.self.now in
     record {
-      same = ap (ordered (take l.order.count l.order.places)) c.figures.ensures.same;
-      told = figures_ordered (take l.order.count l.order.places) (g.S.Store.shows l.store) _ c.figures.ensures.told;
+      same = ap (ordered l.order.places.items) c.figures.ensures.same;
+      told = figures_ordered l.order.places.items (g.S.Store.shows l.store) _ c.figures.ensures.told;
     }

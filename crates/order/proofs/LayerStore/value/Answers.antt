@@ -1,4 +1,4 @@
-use Rattle.std.proofs.Common.{take, ap, ◌∙◌, arith}
+use Rattle.std.proofs.Common.{ap, ◌∙◌, arith}
 use Rattle.order.specs.Renaming.{ordered}
 use Rattle.order.proofs.Calls.{value_ordered}
 use Rattle.order.proofs.LayerStore.value.Goals as goal
@@ -12,7 +12,7 @@ returns g c =
     let told = c.figures-n.ensures.told in
     let same = c.figures-n.ensures.same in
     record {
-      same = ap (ordered (take l.order.count l.order.places)) (c.value.ensures.same ∙ same);
-      told = value_ordered (take l.order.count l.order.places) (g.S.Store.shows l.store) (g.S.Store.shows c.figures-n.new.self) (g.S.Store.shows c.value.new.self)
+      same = ap (ordered l.order.places.items) (c.value.ensures.same ∙ same);
+      told = value_ordered l.order.places.items (g.S.Store.shows l.store) (g.S.Store.shows c.figures-n.new.self) (g.S.Store.shows c.value.new.self)
           told.lawful same _ told.variables c.args.a c.args.w _ _ c.valuation_below.ensures c.value.ensures.told;
     }
