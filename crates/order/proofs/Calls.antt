@@ -7,7 +7,7 @@ use Rattle.store.specs.declared.figures.Figures.{Figures}
 use Rattle.std.specs.Option.{UnwrapsOrElse}
 use Rattle.order.specs.declared.order.Order.{Order}
 use Rattle.store.specs.Fun.{Fn, bit, fix}
-use Rattle.store.specs.Meaning.{Shown, Lawful}
+use Rattle.store.specs.Meaning.{Shown}
 use Rattle.store.specs.Calls.{Reply, MakesVariable, MakesCofactor, TellsValue, TellsFigures}
 use Rattle.order.specs.Listing.{is_order, order_of}
 use Rattle.order.specs.Renaming.{placed, above, renamed, ordered}

@@ -74,6 +74,9 @@ impl Order {
         requires { n ≤ 24 }
         ensures { result ≡ placed (order_of n self.now.places.items) n w }
     {
-        (0..n).fold(w, |v, i| with_bit(v, self.variable_below(n, i), (w >> i) % 2 == 1))
+        (0..n).fold(
+            w,
+            |v, i| with_bit(v, self.variable_below(n, i), (w >> i) % 2 == 1),
+        )
     }
 }

@@ -1,4 +1,4 @@
-use Rattle.std.proofs.Common.{◌≡◌, ℕ, ◌∙◌, ◌&&◌, Bool, eqb, refl, sym, ap, rules, arith, length}
+use Rattle.std.proofs.Common.{ℕ, ◌∙◌, ◌&&◌, Bool, eqb, refl, sym, ap, rules, arith, length}
 use Rattle.std.proofs.lemmas.Bool.{eq-eqb, ne_eqb}
 use Rattle.std.proofs.lemmas.Iterator.{YieldsList-from_range}
 use Rattle.std.proofs.lemmas.Iterator.Search.{all_from_yields_List}

@@ -1,4 +1,4 @@
-use Rattle.std.proofs.Common.{sym, rules}
+use Rattle.std.proofs.Common.{rules}
 use Rattle.order.proofs.Lists.{short, order_itself}
 use Rattle.order.proofs.order.Order.of.Goals as goal
 

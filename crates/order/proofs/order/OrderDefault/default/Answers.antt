@@ -1,4 +1,4 @@
-use Rattle.std.proofs.Common.{ap, ◌∙◌, refl, length}
+use Rattle.std.proofs.Common.{ap, length}
 use Rattle.order.specs.Listing.{is_order}
 use Rattle.order.proofs.order.OrderDefault.default.Goals as goal
 
