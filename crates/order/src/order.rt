@@ -1,10 +1,10 @@
 // The order of a layer's variables, in a fixed array.
-ghost use Rattle.std.specs.Prelude.{◌≡◌, ◌<◌, ◌≤◌, true, false, [], length, MatchOption};
-ghost use Rattle.store.specs.Fun.{fixed};
+ghost use Rattle.std.specs.Prelude.{◌≡◌, ◌≤◌, true, false, [], length, MatchOption};
 ghost use Rattle.order.specs.Listing.{times, is_order, order_of};
 ghost use Rattle.order.specs.Renaming.{placed};
 
 use arrayvec::ArrayVec;
+use store::bits::{bit, with_bit};
 
 // The places hold each number below their count once.
 #[derive(Drop)]
@@ -25,14 +25,6 @@ pub(super) fn is_order(n: u8, p: &[u8]) -> bool
     ensures { result ≡ is_order n p.now }
 {
     p.len() == n as usize && (0..n).all(|j| times(p, j) == 1)
-}
-
-// v with its bit i set to t.
-fn with_bit(v: u32, i: u8, t: bool) -> u32
-    requires { i < 32 }
-    ensures { result ≡ fixed i t v }
-{
-    if t { v | 1 << i } else { v & !(1 << i) }
 }
 
 // The order of no variables.
@@ -74,9 +66,6 @@ impl Order {
         requires { n ≤ 24 }
         ensures { result ≡ placed (order_of n self.now.places.items) n w }
     {
-        (0..n).fold(
-            w,
-            |v, i| with_bit(v, self.variable_below(n, i), (w >> i) % 2 == 1),
-        )
+        (0..n).fold(w, |v, i| with_bit(v, self.variable_below(n, i), bit(w, i)))
     }
 }
