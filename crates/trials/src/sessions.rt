@@ -83,8 +83,14 @@ fn agree(rt: &impl Abort, case: Case, told: Told) -> Result<(), Fail> {
     let mut tables = [TRUTHS; 100];
     assert_eq!(rt; search(Diagram::new(10, &mut nodes), case)?, told);
     assert_eq!(rt; search(Table::new(10, &mut tables), case)?, told);
-    assert_eq!(rt; search(Layer::new(Diagram::new(10, &mut nodes), &ORDER), case)?, told);
-    assert_eq!(rt; search(Layer::new(Table::new(10, &mut tables), &ORDER), case)?, told);
+    assert_eq!(rt;
+        search(Layer::new(Diagram::new(10, &mut nodes), &ORDER), case)?,
+        told
+    );
+    assert_eq!(rt;
+        search(Layer::new(Table::new(10, &mut tables), &ORDER), case)?,
+        told
+    );
     Ok(())
 }
 

@@ -78,8 +78,14 @@ fn makes_agree(rt: HostRuntime) -> Result<(), Fail> {
     assert_eq!(rt; driven(Table::new(4, &mut tables), heap)?, told);
     assert_eq!(rt; driven(layer(Diagram::new(4, &mut nodes)), heap)?, told);
     assert_eq!(rt; driven(layer(Table::new(4, &mut tables)), heap)?, told);
-    assert_eq!(rt; driven(layer(layer(Diagram::new(4, &mut nodes))), heap)?, told);
-    assert_eq!(rt; driven(layer(layer(Table::new(4, &mut tables))), heap)?, told);
+    assert_eq!(rt;
+        driven(layer(layer(Diagram::new(4, &mut nodes))), heap)?,
+        told
+    );
+    assert_eq!(rt;
+        driven(layer(layer(Table::new(4, &mut tables))), heap)?,
+        told
+    );
     Ok(())
 }
 
