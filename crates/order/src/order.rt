@@ -27,7 +27,7 @@ pub(super) fn is_order(n: u8, p: &[u8]) -> bool
     p.len() == n as usize && (0..n).all(|j| times(p, j) == 1)
 }
 
-// The order of no variables.
+// The order of no variables. A struct with a ghost field derives no Default.
 impl Default for Order {
     ghost is_default = { λ o. o.places.items ≡ [] };
 
