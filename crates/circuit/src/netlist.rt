@@ -98,6 +98,6 @@ impl Netlist {
             let touches = gate.names_marked(marks.as_slice());
             marks.push(touches);
         }
-        marks.as_slice()[marks.len() - 1]
+        marks.as_slice().last().copied().unwrap_or(false)
     }
 }

@@ -25,6 +25,7 @@ pub enum Refusal {
 }
 
 impl Refusal {
+    // A method, since `as` takes no enum that holds values.
     pub fn number(self) -> u8
         ensures { result ≡ number_of self }
     {
@@ -37,6 +38,7 @@ impl Refusal {
         }
     }
 
+    // What a refusal holds is its place.
     pub fn place(self) -> usize
         ensures { result ≡ place_of self }
     {

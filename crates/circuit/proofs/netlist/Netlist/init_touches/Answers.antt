@@ -1,4 +1,4 @@
-use Rattle.std.proofs.Common.{◌≡◌, rules, subst}
+use Rattle.std.proofs.Common.{◌≡◌, ◌-◌, false, length, get_or, rules, ◌∙◌, subst}
 use Rattle.circuit.proofs.Marks.{Marked, front_more, marked_front, marked_more, marked_last}
 use Rattle.circuit.proofs.netlist.Netlist.init_touches.Goals as goal
 
@@ -18,5 +18,6 @@ loop-gate-preserved c =
 
 pub returns : goal.returns
 returns c =
-    rw (c.as_slice-2.ensures.value, c.len.ensures.value)
-    (marked_last c.args.self.now c.loop-gate.marks.items (search rules) (subst (Marked c.args.self.now c.loop-gate.marks.items) (search rules) c.loop-gate.invariant))
+    let marks = c.loop-gate.marks.items in
+    let last : c.unwrap_or.result ≡ get_or marks (length marks - 1) false = search rules in
+    last ∙ marked_last c.args.self.now marks (search rules) (subst (Marked c.args.self.now marks) (search rules) c.loop-gate.invariant)

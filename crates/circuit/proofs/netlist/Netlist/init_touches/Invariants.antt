@@ -1,5 +1,6 @@
 use Rattle.std.proofs.Common.{◌≡◌, length, take}
-use Rattle.circuit.proofs.Marks.{front, Marked}
+use Rattle.circuit.proofs.Lines.{front}
+use Rattle.circuit.proofs.Marks.{Marked}
 use Rattle.circuit.proofs.netlist.Netlist.init_touches.Given as goal
 
 abbrev pub invariant-loop-line : goal.invariant-loop-line
