@@ -28,8 +28,8 @@ no_end : (b : ℕ) → mark end ≡ class b → ⊥
 no_end b e = grind (arith, nat_tests)
 
 not_end : (s : Sort) (ds : List ℕ) → end ≡ name_of s ds → ⊥
-not_end s [] e = let z : ◌≡◌ {A = ℕ} 0 1 = cc in omega arith
-not_end s (d ∷ []) e = let z : ◌≡◌ {A = ℕ} 0 1 = cc in omega arith
+not_end s [] e = cc
+not_end s (d ∷ []) e = cc
 not_end s (d ∷ c ∷ ds) e = grind (arith, nat_tests)
 
 -- the spaces at the front
