@@ -1,5 +1,5 @@
 -- How what one reader read joins what another did.
-use Rattle.std.proofs.Common.{◌≡◌, ℕ, ◌+◌, ◌-◌, ◌*◌, ◌<◌, ◌≤◌, Bool, cond, List, [], ◌∷◌, ◌++◌, length, Some, None, Ok, Err, Result, sym, refl, ap, ◌∙◌, subst, append_assoc, append-nil, arith, length-append, Bor, MatchResult}
+use Rattle.std.proofs.Common.{◌≡◌, ℕ, ◌+◌, ◌-◌, ◌*◌, ◌<◌, ◌≤◌, Bool, cond, List, [], ◌∷◌, ◌++◌, length, Some, None, Ok, Err, Result, sym, refl, ap, ◌∙◌, subst, append_assoc, append-nil, arith, length-append, Bor, MatchResult, IsErrAnd}
 use Rattle.std.proofs.lemmas.Bool.{lt-ltb, le-ltb}
 use Rattle.claim.specs.declared.code.Sort.{Sort}
 use Rattle.claim.specs.declared.code.Act.TheVariants as act
@@ -16,6 +16,11 @@ use Rattle.claim.specs.Grammar.{Level, claim, term, factor, Tree, const, named, 
 use Rattle.claim.specs.Machine.{State, want, have, depths, next, flaw, judged, step, scan}
 use Rattle.claim.specs.Reading.{ahead, Reach, Bare, Sofar, Taken, Stopped}
 use Rattle.claim.proofs.Runs.{scan_append}
+
+-- what a `?` hands on
+pub handed_on : {l : Level} {d : ℕ} {a b : Reader} {e : Fault} (r : Result (Unit {0}) Fault) → IsErrAnd r (λ f. f ≡ e) → Stopped l d a b e → MatchResult r (λ _. Taken l d a b) (λ f. Stopped l d a b f)
+handed_on (Ok x) h s = absurd h
+handed_on {l} {d} {a} {b} (Err f) h s = subst (Stopped l d a b) (sym h) s
 
 pub reach_none : {a : Reader} → Reach a a [] []
 reach_none {a} = record { text = refl; sizes = refl; passed = refl; far = omega arith; wrote = sym (append-nil a.codes.items) }
