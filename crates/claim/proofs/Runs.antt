@@ -1,6 +1,6 @@
 -- The machine over many tokens.
 use Rattle.std.proofs.Common.{◌≡◌, ℕ, ◌+◌, ◌<◌, ◌≤◌, Bool, true, false, cond, ltb, ◌⊎◌, List, [], ◌∷◌, ◌++◌, Some, None, Ok, Err, Option, Result, sym, refl, ap, ◌∙◌, subst, inl, inr, ⊎_elim, arith}
-use Rattle.std.proofs.lemmas.Bool.{ltb-true, ltb-false}
+use Rattle.std.proofs.lemmas.Bool.Decides.{nat_tests}
 use Rattle.claim.specs.declared.code.Sort.{Sort}
 use Rattle.circuit.specs.declared.sizes.Sizes.{Sizes}
 use Rattle.claim.specs.declared.fault.Fault.{Fault}
@@ -45,11 +45,7 @@ pub comes_over : {xs : List Tok} {t : Tree} → Says xs t → run (Some start) x
 comes_over (a_text {ts = ts} p d) = run_append (Some start) ts (tok p end ∷ []) ∙ ap (λ o. run o (tok p end ∷ [])) (comes d 0 [])
 
 below : (a b : ℕ) (f : Fault) → cond (ltb a b) None (Some f) ≡ None → a < b
-below a b f e = by (ltb a b) refl e
-  where
-    by : (t : Bool) → ltb a b ≡ t → cond t None (Some f) ≡ None → a < b
-    by true h e = ltb-true a b h
-    by false h e = cc
+below a b f e = grind (arith, nat_tests)
 
 pub known : (z : Sizes) (s : State) (p : ℕ) (l : Sort) (ds : List ℕ) → flaw z s (name l ds) p ≡ None → value ds < limit z l
 known z s p l ds e = below (value ds) (limit z l) (Name p) e
@@ -115,18 +111,10 @@ module _ (z : Sizes) where
     flawed : {k : Kind} {f : Fault} (u : State) → next s k ≡ Some u → Flawed s p k f → Why s p k f
 
   opening : {k : Kind} (s : State) (p : ℕ) (f : Fault) → Opens k → cond (ltb (deep s) 16) None (Some (Deep p)) ≡ Some f → Flawed s p k f
-  opening {k} s p f o e = by (ltb (deep s) 16) refl e
-    where
-      by : (b : Bool) → ltb (deep s) 16 ≡ b → cond b None (Some (Deep p)) ≡ Some f → Flawed s p k f
-      by true h e = cc
-      by false h e = let g : Deep p ≡ f = cc in subst (Flawed s p k) g (too_many o (ltb-false (deep s) 16 h))
+  opening {k} s p f o e = let g : (Deep p ≡ f) × (16 ≤ deep s) = grind (arith, nat_tests) in subst (Flawed s p k) g.0 (too_many o g.1)
 
   naming : (s : State) (p : ℕ) (f : Fault) (l : Sort) (ds : List ℕ) → cond (ltb (value ds) (limit z l)) None (Some (Name p)) ≡ Some f → Flawed s p (name l ds) f
-  naming s p f l ds e = by (ltb (value ds) (limit z l)) refl e
-    where
-      by : (b : Bool) → ltb (value ds) (limit z l) ≡ b → cond b None (Some (Name p)) ≡ Some f → Flawed s p (name l ds) f
-      by true h e = cc
-      by false h e = let g : Name p ≡ f = cc in subst (Flawed s p (name l ds)) g (unknown (ltb-false (value ds) (limit z l) h))
+  naming s p f l ds e = let g : (Name p ≡ f) × (limit z l ≤ value ds) = grind (arith, nat_tests) in subst (Flawed s p (name l ds)) g.0 (unknown g.1)
 
   never : {A : Type 0} (f : Fault) → None ≡ Some f → A
   never f e = cc
