@@ -1,17 +1,17 @@
 -- What one byte is of the tokens.
-use Rattle.std.proofs.Common.{◌≡◌, ℕ, zero, suc, ◌+◌, ◌-◌, ◌<◌, ◌≤◌, ◌==◌, Bool, true, false, cond, List, [], ◌∷◌, ◌++◌, length, get_or, take, drop, sym, refl, ap, ◌∙◌, append_assoc, append-nil, add-zero, arith, length-drop, drop-drop, ◌≢◌}
+use Rattle.std.proofs.Common.{◌≡◌, ℕ, zero, suc, ◌+◌, ◌-◌, ◌<◌, ◌≤◌, ◌==◌, Bool, true, false, cond, List, [], ◌∷◌, length, get_or, take, drop, sym, refl, ap, ◌∙◌, add-zero, arith, length-drop, drop-drop, ◌≢◌}
 use Rattle.std.specs.List.{take_while, prefix_len}
 use Rattle.std.specs.Char.{is_ascii_digit}
 use Rattle.std.proofs.lemmas.List.Sums.{take_while-cons, prefix_len_stops, prefix_len-le-length}
 use Rattle.std.proofs.lemmas.List.Folds.{length-prefix_len}
 use Rattle.std.proofs.lemmas.List.{at_drop_more, at_drop_all, take_rest, get_or-drop}
-use Rattle.std.proofs.lemmas.Bool.{and_from, le-leb, cond_below, cond_above}
+use Rattle.std.proofs.lemmas.Bool.{cond_below, cond_above}
 use Rattle.std.proofs.lemmas.Bool.Decides.{nat_tests}
 use Rattle.claim.specs.declared.code.Sort.{Sort}
 use Rattle.claim.specs.declared.lexer.Token.{Token}
 use Rattle.claim.specs.declared.lexer.Token.TheVariants.{End}
 use Rattle.claim.specs.Seen.{kind_of, Lexed}
-use Rattle.claim.specs.Tokens.{end, tok, Class, space, mark, letter, class, digit, digits, name_of, begun, more, tokens}
+use Rattle.claim.specs.Tokens.{end, tok, Class, mark, letter, class, digit, digits, name_of, begun, more, tokens}
 
 -- the digits at the front
 digits_front : (bs : List ℕ) → take_while is_ascii_digit bs ≡ digits bs

@@ -31,7 +31,9 @@ fn number_below(digits: &[u8], most: u16) -> Option<u16>
 {
     let mut n: u16 = 0;
     for digit in digits {
-        n = n.checked_mul(10)?.checked_add(digit.saturating_sub(b'0') as u16)?;
+        n = n
+            .checked_mul(10)?
+            .checked_add(digit.saturating_sub(b'0') as u16)?;
     }
     (n < most).then_some(n)
 }
