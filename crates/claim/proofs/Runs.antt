@@ -116,19 +116,16 @@ module _ (z : Sizes) where
   naming : (s : State) (p : ℕ) (f : Fault) (l : Sort) (ds : List ℕ) → cond (ltb (value ds) (limit z l)) None (Some (Name p)) ≡ Some f → Flawed s p (name l ds) f
   naming s p f l ds e = let g : (Name p ≡ f) × (limit z l ≤ value ds) = grind (arith, nat_tests) in subst (Flawed s p (name l ds)) g.0 (unknown g.1)
 
-  never : {A : Type 0} (f : Fault) → None ≡ Some f → A
-  never f e = cc
-
   flaws : (s : State) (p : ℕ) (k : Kind) (f : Fault) → flaw z s k p ≡ Some f → Flawed s p k f
   flaws s p bang f e = opening s p f opens_not e
-  flaws s p amp f e = never f e
-  flaws s p bar f e = never f e
+  flaws s p amp f e = cc
+  flaws s p bar f e = cc
   flaws s p lparen f e = opening s p f opens_paren e
-  flaws s p rparen f e = never f e
-  flaws s p (constant b) f e = never f e
+  flaws s p rparen f e = cc
+  flaws s p (constant b) f e = cc
   flaws s p (name l ds) f e = naming s p f l ds e
-  flaws s p wrong f e = never f e
-  flaws s p end f e = never f e
+  flaws s p wrong f e = cc
+  flaws s p end f e = cc
 
   pub why : (s : State) (x : Tok) (f : Fault) → step z s x ≡ Err f → Why s x.place x.kind f
   why s x f e = by (next s x.kind) (flaw z s x.kind x.place) refl refl e

@@ -1,6 +1,6 @@
 -- How what one reader read joins what another did.
-use Rattle.std.proofs.Common.{◌≡◌, ℕ, ◌+◌, ◌-◌, ◌*◌, ◌<◌, ◌≤◌, Bool, cond, List, [], ◌∷◌, ◌++◌, length, Some, None, Ok, Err, Result, sym, refl, ap, ◌∙◌, subst, append_assoc, append-nil, arith, length-append, Bor, MatchResult, IsErrAnd}
-use Rattle.std.proofs.lemmas.Bool.{lt-ltb, le-ltb}
+use Rattle.std.proofs.Common.{◌≡◌, ℕ, ◌+◌, ◌-◌, ◌*◌, ◌<◌, ◌≤◌, Bool, List, [], ◌∷◌, ◌++◌, length, None, Ok, Err, Result, sym, refl, ap, ◌∙◌, subst, append_assoc, append-nil, arith, length-append, Bor, MatchResult, IsErrAnd}
+use Rattle.std.proofs.lemmas.Bool.Decides.{nat_tests}
 use Rattle.claim.specs.declared.code.Sort.{Sort}
 use Rattle.claim.specs.declared.code.Act.TheVariants as act
 use Rattle.claim.specs.declared.code.Code.{Code}
@@ -118,14 +118,10 @@ module _ {d p : ℕ} {a b c e : Reader} {f : Fault} where
 
 -- the check of the depth, passed or not
 open_step : (z : Sizes) (n p : ℕ) (o : List ℕ) → n + depths o < 16 → (step z (want n o) (tok p bang) ≡ Ok (want (n + 1) o)) × (step z (want n o) (tok p lparen) ≡ Ok (want 0 (n ∷ o)))
-open_step z n p o low =
-    let e = lt-ltb (n + depths o) 16 low in
-    (ap (λ b. judged (Some (want (n + 1) o)) (cond b None (Some (fault.Deep p))) p) e, ap (λ b. judged (Some (want 0 (n ∷ o))) (cond b None (Some (fault.Deep p))) p) e)
+open_step z n p o low = (grind (arith, nat_tests), grind (arith, nat_tests))
 
 deep_step : (z : Sizes) (n p : ℕ) (o : List ℕ) → 16 ≤ n + depths o → (step z (want n o) (tok p bang) ≡ Err (fault.Deep p)) × (step z (want n o) (tok p lparen) ≡ Err (fault.Deep p))
-deep_step z n p o high =
-    let e = le-ltb (n + depths o) 16 high in
-    (ap (λ b. judged (Some (want (n + 1) o)) (cond b None (Some (fault.Deep p))) p) e, ap (λ b. judged (Some (want 0 (n ∷ o))) (cond b None (Some (fault.Deep p))) p) e)
+deep_step z n p o high = (grind (arith, nat_tests), grind (arith, nat_tests))
 
 pub stuck_step : (z : Sizes) (s : State) (x : Tok) → next s x.kind ≡ None → step z s x ≡ Err (fault.Claim x.place)
 stuck_step z s x e = ap (λ m. judged m (flaw z s x.kind x.place) x.place) e
@@ -225,7 +221,7 @@ module _ {d : ℕ} (a : Reader) where
   no_factor m p c s = stop_here (λ n o x. stuck_step a.sizes (want n o) (ahead a) (refuses_want n o a.ahead.token m p c s))
 
   pub no_name : (s : Sort) (ds : List ℕ) → kind_of a.ahead.token ≡ name s ds → limit a.sizes s ≤ value ds → Stopped factor d a a (fault.Name a.ahead.place)
-  no_name s ds e far = at_kind e (λ n o x. ap (λ b. judged (Some (have o)) (cond b None (Some (fault.Name a.ahead.place))) a.ahead.place) (le-ltb (value ds) (limit a.sizes s) far))
+  no_name s ds e far = at_kind e (λ n o x. grind (arith, nat_tests))
 
 -- atoms
 pub read_constant : {d p : ℕ} {b : Bool} {a c : Reader} → Reach a c (tok p (constant b) ∷ []) (code (act.Constant b) p ∷ []) → Taken factor d a c
@@ -238,7 +234,7 @@ read_name {d} {a} {c} s ds n e is low r = record {
     tree = named a.ahead.place s (value ds);
     reach = subst (λ k. Reach a c (tok a.ahead.place k ∷ []) (code (act.Name s (value ds)) a.ahead.place ∷ [])) e (subst (λ m. Reach a c (ahead a ∷ []) (code (act.Name s m) a.ahead.place ∷ [])) is r);
     derived = a_name;
-    path = λ m o x y. ap (λ b. judged (Some (have o)) (cond b None (Some (fault.Name a.ahead.place))) a.ahead.place) (lt-ltb (value ds) (limit a.sizes s) (omega arith));
+    path = λ m o x y. grind (arith, nat_tests);
   };
   follow = tt;
 }

@@ -17,7 +17,7 @@ pub enum Act {
     Or,
 }
 
-// An act and the byte of the text that it comes from.
+// An act and the byte of the text that it comes from. The default fills room that is not in use.
 #[derive(Clone, Copy, PartialEq, Eq, Debug, Default)]
 pub struct Code {
     pub act: Act,

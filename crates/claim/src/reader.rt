@@ -141,6 +141,7 @@ impl<'a> Reader<'a> {
         Ok(())
     }
 
+    // Two loops: one for both would have to switch on which rule of the grammar comes next.
     #[cycle(claim_factor_term)]
     pub fn claim(&mut self, depth: Depth) -> Result<(), Fault>
         ensures { MatchResult result (λ _. Taken claim depth.opened self.old self.new) (λ f. Stopped claim depth.opened self.old self.new f) }
