@@ -29,7 +29,6 @@ pub struct Lexeme<'a> {
 }
 
 // What a byte other than a space begins.
-#[derive(Clone, Copy)]
 pub enum Class<'a> {
     Mark(Token<'a>),
     Letter(Sort),
