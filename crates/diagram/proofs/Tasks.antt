@@ -1,5 +1,5 @@
 -- The numbers of a task, and what they give it.
-use Rattle.std.proofs.Common.{◌≡◌, ℕ, ◌+◌, ◌<◌, ◌≤◌, Bool, true, false, not, ltb, length, Some, None, Option, refl, ap, ◌∙◌, subst, ap₂, inl, inr, arith}
+use Rattle.std.proofs.Common.{◌≡◌, ℕ, zero, suc, ◌+◌, ◌<◌, ◌≤◌, Bool, true, false, not, ltb, length, Some, None, Option, refl, ap, ◌∙◌, subst, ap₂, inl, inr, arith}
 use mir.Val.{bool_byte}
 use Rattle.std.proofs.lemmas.Bool.{ltb-true, lt-ltb, and_parts}
 use Rattle.store.specs.Fun.{bit, fix, fixed, Same}
@@ -86,7 +86,9 @@ module _ (d : Diagram) where
 
   -- what a number that is no constant has on top
   pub inner_top : (a : ℕ) → Number d a → 2 ≤ a → top d.n (listed d) a < d.n
-  inner_top a h l = let r = read_of d a (number d a h) l _ refl in omega (arith, r.variable, r.below)
+  inner_top zero h l = absurd (omega arith)
+  inner_top (suc zero) h l = absurd (omega arith)
+  inner_top (suc (suc k)) h l = (read_of d (suc (suc k)) (number d _ h) _ refl).below
 
   pub settled_not : (a : ℕ) → Posed (showing d) (Not a) → 2 ≤ a → Settled d (Not a) None
   settled_not a p l = (inner_top a p.0 l, tt)

@@ -1,5 +1,5 @@
 // The memo of the descents: every task has one place in a table, and the last one that was made there stays.
-ghost use Rattle.std.specs.Prelude.{◌≡◌};
+ghost use Rattle.std.specs.Prelude.{◌≡◌, ◌<◌};
 ghost use Rattle.diagram.specs.Remembered.{key, place, all_blank, updated, Recalls};
 
 use super::task::{Op, Task};
@@ -42,7 +42,8 @@ fn key(task: Task) -> u64
 
 // The top bits of a product with 2 to the 64 by the golden ratio, which spreads keys that are close.
 fn place(task: Task) -> usize
-    ensures { result ≡ place task }
+    ensures hashed { result ≡ place task }
+    ensures within { result < SLOTS }
 {
     (key(task).wrapping_mul(0x9e37_79b9_7f4a_7c15) >> (64 - BITS)) as usize
 }
@@ -62,11 +63,7 @@ impl Memo {
         ensures { Recalls self.now task result }
     {
         let slot = self.slots[place(task)];
-        if slot.task == task {
-            Some(slot.number)
-        } else {
-            None
-        }
+        (slot.task == task).then_some(slot.number)
     }
 
     pub fn remember(&mut self, task: Task, number: u16)

@@ -1,9 +1,9 @@
 // What a diagram knows of its size and of its function numbers.
-ghost use Rattle.std.specs.Prelude.{◌≡◌, ◌+◌, ◌-◌, ◌^◌, ◌<◌, ◌≤◌, length, nat_lt};
+ghost use Rattle.std.specs.Prelude.{◌≡◌, ◌+◌, ◌^◌, ◌<◌, ◌≤◌, length, nat_lt};
 ghost use Rattle.store.specs.Meaning.{Lawful};
-ghost use Rattle.nodes.specs.Graph.{node, top, value};
+ghost use Rattle.nodes.specs.Graph.{top, value};
 ghost use Rattle.nodes.specs.Growth.{Halved};
-ghost use Rattle.diagram.specs.Shows.{listed, capacity, showing};
+ghost use Rattle.diagram.specs.Shows.{listed, capacity, showing, node_under};
 
 use super::Diagram;
 use nodes::Node;
@@ -35,13 +35,13 @@ impl Diagram<'_> {
         (a as usize) < self.nodes.len() + 2
     }
 
-    // The node of a number that is no constant.
-    fn node(&self, a: u16) -> Node
-        requires held { a < length (listed self.now) + 2 }
-        requires inner { 2 ≤ a }
-        ensures { result ≡ node (listed self.now) (a - 2) }
+    // The node of a number, and none for a constant.
+    fn node(&self, a: u16) -> Option<Node>
+        requires { a < length (listed self.now) + 2 }
+        ensures { result ≡ node_under (listed self.now) a }
     {
-        *self.nodes.get(a as usize - 2).unwrap()
+        let place = a.checked_sub(2)?;
+        Some(*self.nodes.get(place as usize).unwrap())
     }
 
     // The variable on top of a, and the number of variables for a constant.
@@ -49,7 +49,7 @@ impl Diagram<'_> {
         requires { a < length (listed self.now) + 2 }
         ensures { result ≡ top self.now.n (listed self.now) a }
     {
-        if a < 2 { self.n } else { self.node(a).variable }
+        self.node(a).map_or(self.n, |node| node.variable)
     }
 
     // The number of a with a variable fixed to t that a has not below its top.
@@ -59,14 +59,9 @@ impl Diagram<'_> {
         requires over { variable ≤ top self.now.n (listed self.now) a }
         ensures { Halved self.now.n (listed self.now) a variable t result }
     {
-        if a < 2 {
-            return a;
-        }
-        let node = self.node(a);
-        if node.variable == variable {
-            node.child(t)
-        } else {
-            a
+        match self.node(a) {
+            Some(node) if node.variable == variable => node.child(t),
+            _ => a,
         }
     }
 
@@ -76,8 +71,7 @@ impl Diagram<'_> {
         ensures { result ≡ value (listed self.now) a w }
     {
         let mut at = a;
-        while at >= 2 {
-            let node = self.node(at);
+        while let Some(node) = self.node(at) {
             at = node.child((w >> node.variable) % 2 == 1);
         }
         at == 1
