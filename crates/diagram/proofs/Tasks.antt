@@ -4,7 +4,6 @@ use mir.Val.{bool_byte}
 use Rattle.std.proofs.lemmas.Bool.{ltb-true, lt-ltb, and_parts}
 use Rattle.store.specs.Fun.{bit, fix, fixed, Same}
 use Rattle.store.proofs.Bit.{bit_fixed_same, bit_fixed_other, fixed_lt, fixed_comm}
-use Rattle.store.proofs.Same.{same_sym}
 use Rattle.nodes.specs.Graph.{value, top}
 use Rattle.nodes.specs.Growth.{Ext, Halved, Splits}
 use Rattle.nodes.proofs.Values.{value_free}
@@ -92,9 +91,6 @@ module _ (d : Diagram) where
 
   pub settled_not : (a : ℕ) → Posed (showing d) (Not a) → 2 ≤ a → Settled d (Not a) None
   settled_not a p l = (inner_top a p.0 l, tt)
-
-  pub settled_cofactor : (a i : ℕ) (t : Bool) (r : ℕ) → Halved d.n (listed d) a i t r → Settled d (Cofactor a i t) (Some r)
-  settled_cofactor a i t r h = (h.held, h.lower, same_sym d.n _ _ h.means)
 
   pub settled_both : (op : Op) (a b : ℕ) (r : Option ℕ) → Posed (showing d) (Both op a b) → Plain op a b r → Settled d (Both op a b) r
   settled_both op a b None p q = let l = inner_top a (both_held d op a b p).0 q.0 in (omega arith, tt)

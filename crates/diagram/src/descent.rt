@@ -40,16 +40,10 @@ impl Diagram<'_> {
         ensures { Settled self.now task result }
     {
         match task {
-            Task::Variable(_) => None,
-            Task::Not(a) => if a < 2 { Some(1 - a) } else { None },
+            Task::Not(a) if a < 2 => Some(1 - a),
             Task::Both(op, a, b) => op.at_once(a, b),
-            Task::Cofactor(a, i, t) => {
-                if i <= self.top(a) {
-                    Some(self.child(a, i, t))
-                } else {
-                    None
-                }
-            }
+            Task::Cofactor(a, i, t) if i <= self.top(a) => Some(self.child(a, i, t)),
+            Task::Variable(_) | Task::Not(_) | Task::Cofactor(_, _, _) => None,
         }
     }
 

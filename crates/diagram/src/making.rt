@@ -15,7 +15,7 @@ use store::refusal::Unfit;
 pub fn check(n: u8, records: &[Node]) -> Result<(), Unfit>
     ensures { result ≡ (if suits n (length records.now) then Ok tt else Err Outside) }
 {
-    if n >= 1 && n <= 24 && records.len() <= 65534 {
+    if (1..=24).contains(&n) && records.len() <= 65534 {
         Ok(())
     } else {
         Err(Unfit::Store)
@@ -29,9 +29,10 @@ impl<'a> Diagram<'a> {
         ensures fresh { Fresh (showing result) }
         ensures lawful { Lawful (showing result) }
     {
-        match check(n, records) {
-            Ok(_) => Diagram::empty(n, records),
-            Err(_) => Diagram::empty(1, &mut []),
+        if check(n, records).is_ok() {
+            Diagram::empty(n, records)
+        } else {
+            Diagram::empty(1, &mut [])
         }
     }
 
