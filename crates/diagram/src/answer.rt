@@ -40,6 +40,7 @@ impl Diagram<'_> {
     fn finish(&mut self, used: usize, made: Result<u16, Full>) -> Result<u16, Refusal>
         ensures { Finishes self.old self.new used made result }
     {
+        // A match: after `map_err` the proof knows nothing of what its closure changed.
         match made {
             Ok(number) => Ok(number),
             Err(_) => {

@@ -16,17 +16,6 @@ returns-in_err-low t c =
     (low_stops d c.args.task c.requires c.in_default.ensures c.peak-variable.result c.peak-variable.ensures c.half-off.result c.half-on.result c.half-off.ensures c.half-on.ensures
     c.make.new.self c.in_err-low.field-0.0 p.0 c.in_err-low.ensures)
 
-pub make-requires-2 : goal.make-requires-2
-make-requires-2 t c =
-    let d = c.args.self.now in
-    let m = c.in_ok-low.ensures in
-    let u = on_under d c.args.task c.requires c.in_default.ensures c.peak-variable.result c.peak-variable.ensures c.half-off.result c.half-on.result c.half-off.ensures c.half-on.ensures
-    c.make.new.self c.in_ok-low.low m in (
-      omega (arith, u, m.vars, c.peak-variable.ensures, c.in_default.ensures.0),
-      on_posed d c.args.task c.requires c.in_default.ensures c.peak-variable.result c.peak-variable.ensures c.half-off.result c.half-on.result c.half-off.ensures c.half-on.ensures
-          c.make.new.self c.in_ok-low.low m,
-    )
-
 pub returns-in_err-high : goal.returns-in_err-high
 returns-in_err-high t c =
     let d = c.args.self.now in
@@ -35,18 +24,6 @@ returns-in_err-high t c =
     (high_stops d c.args.task c.requires c.in_default.ensures c.peak-variable.result c.peak-variable.ensures c.half-off.result c.half-on.result c.half-off.ensures c.half-on.ensures
     c.make.new.self c.in_ok-low.low c.in_ok-low.ensures
     c.make-2.new.self c.in_err-high.field-0.0 p.0 c.in_err-high.ensures)
-
-pub join-requires : goal.join-requires
-join-requires t c =
-    let d = c.args.self.now in
-    record {
-      below = join_below d c.args.task c.requires c.in_default.ensures c.peak-variable.result c.peak-variable.ensures c.half-off.result c.half-on.result c.half-off.ensures c.half-on.ensures
-          c.make.new.self c.in_ok-low.low c.in_ok-low.ensures c.make-2.new.self c.in_ok-high.high c.in_ok-high.ensures;
-      held = join_held d c.args.task c.requires c.in_default.ensures c.peak-variable.result c.peak-variable.ensures c.half-off.result c.half-on.result c.half-off.ensures c.half-on.ensures
-          c.make.new.self c.in_ok-low.low c.in_ok-low.ensures c.make-2.new.self c.in_ok-high.high c.in_ok-high.ensures;
-      under = join_under d c.args.task c.requires c.in_default.ensures c.peak-variable.result c.peak-variable.ensures c.half-off.result c.half-on.result c.half-off.ensures c.half-on.ensures
-          c.make.new.self c.in_ok-low.low c.in_ok-low.ensures c.make-2.new.self c.in_ok-high.high c.in_ok-high.ensures;
-    }
 
 pub returns-in_err-number : goal.returns-in_err-number
 returns-in_err-number t c =

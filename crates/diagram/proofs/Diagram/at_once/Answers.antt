@@ -1,9 +1,6 @@
-use Rattle.diagram.proofs.Tasks.{settled_not, settled_both}
+use Rattle.diagram.proofs.Tasks.{settled_both}
 use Rattle.diagram.proofs.Diagram.at_once.Goals as goal
 
 pub returns-in-Both : goal.returns-in-Both
 returns-in-Both c =
     rw c.in-Both.is (settled_both c.args.self.now c.in-Both.op c.in-Both.a c.in-Both.b c.at_once.result (rw c.in-Both.is at c.requires) c.at_once.ensures)
-
-pub returns-in-Variable : goal.returns-in-Variable
-returns-in-Variable c = rw c.in-Not.is (settled_not c.args.self.now c.in-Not.a (rw c.in-Not.is at c.requires) c.if-a-lt2.false)

@@ -6,15 +6,6 @@ use Rattle.diagram.proofs.Fields.{sound_of, few_of, right_of}
 use Rattle.diagram.proofs.Remembering.{grown_right}
 use Rattle.diagram.proofs.Diagram.join.Goals as goal
 
-pub returns-then-low-high : goal.returns-then-low-high
-returns-then-low-high c =
-    let d = c.args.self.now in
-    record {
-      vars = refl;
-      capacity = refl;
-      outcome = join_same d.n (listed d) (sound_of d) c.args.variable c.args.low c.args.high c.requires.below c.requires.held c.requires.under c.if-low-high.true;
-    }
-
 pub invariant_of-self : goal.invariant_of-self
 invariant_of-self c =
     let d = c.args.self.now in
