@@ -1,17 +1,17 @@
 -- In a list of nodes that has grown, a task asks for the same.
 use Rattle.std.proofs.Common.{◌≡◌, ℕ, ◌+◌, ◌<◌, min, true, not, ltb, List, length, refl, ap, ◌∙◌, ap₂, arith}
 use Rattle.std.proofs.lemmas.Bool.{ltb-true, lt-ltb, and_from, and_parts}
+use Rattle.store.specs.Tasks.{applied, asked, Posed}
 use Rattle.store.specs.Fun.{fixed}
 use Rattle.nodes.specs.declared.Node.{Node}
 use Rattle.nodes.specs.Graph.{value, top, Sound}
 use Rattle.nodes.specs.Growth.{Ext}
 use Rattle.nodes.specs.Shows.{shown}
 use Rattle.nodes.proofs.Extend.{top_ext, value_ext}
-use Rattle.diagram.specs.declared.task.Op.{Op}
-use Rattle.diagram.specs.declared.task.Task.{Task}
-use Rattle.diagram.specs.declared.task.Task.TheVariants.{Variable, Not, Both, Cofactor}
-use Rattle.diagram.specs.Asked.{asked, peak, Posed}
-use Rattle.diagram.specs.Plain.{applied}
+use Rattle.store.specs.declared.task.Op.{Op}
+use Rattle.store.specs.declared.task.Task.{Task}
+use Rattle.store.specs.declared.task.Task.TheVariants.{Variable, Not, Both, Cofactor}
+use Rattle.diagram.specs.Asked.{peak}
 
 module _ (n m : ℕ) (xs ys : List Node) (b c : ℕ) (s : Sound n xs) (vars : m ≡ n) (x : Ext xs ys) where
   -- a is held

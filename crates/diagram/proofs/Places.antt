@@ -3,8 +3,8 @@ use Rattle.std.proofs.Common.{◌≡◌, ℕ, ◌<◌, length, get_or, sym, ap, 
 use Rattle.std.proofs.lemmas.List.{get_or_default}
 use Rattle.diagram.specs.declared.memo.Memo.{Memo}
 use Rattle.diagram.specs.declared.memo.Slot.{Slot}
-use Rattle.diagram.specs.declared.task.Task.{Task}
-use Rattle.diagram.specs.declared.task.Task.TheVariants.{Variable}
+use Rattle.store.specs.declared.task.Task.{Task}
+use Rattle.store.specs.declared.task.Task.TheVariants.{Variable}
 use Rattle.diagram.specs.Remembered.{place, blank, slot}
 
 pub place_below : (task : Task) → place task < 4096

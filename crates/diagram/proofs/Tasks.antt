@@ -2,18 +2,19 @@
 use Rattle.std.proofs.Common.{◌≡◌, ℕ, zero, suc, ◌+◌, ◌<◌, ◌≤◌, Bool, true, false, not, ltb, length, Some, None, Option, refl, ap, ◌∙◌, subst, ap₂, inl, inr, arith}
 use mir.Val.{bool_byte}
 use Rattle.std.proofs.lemmas.Bool.{ltb-true, lt-ltb, and_parts}
+use Rattle.store.specs.Tasks.{applied, asked, Posed}
 use Rattle.store.specs.Fun.{bit, fix, fixed, Same}
 use Rattle.store.proofs.Bit.{bit_fixed_same, bit_fixed_other, fixed_lt, fixed_comm}
 use Rattle.nodes.specs.Graph.{value, top}
 use Rattle.nodes.specs.Growth.{Ext, Halved, Splits}
 use Rattle.nodes.proofs.Values.{value_free}
 use Rattle.diagram.specs.declared.Diagram.{Diagram}
-use Rattle.diagram.specs.declared.task.Op.{Op}
-use Rattle.diagram.specs.declared.task.Task.{Task}
-use Rattle.diagram.specs.declared.task.Task.TheVariants.{Variable, Not, Both, Cofactor}
-use Rattle.diagram.specs.Asked.{asked, peak, Posed, Before}
+use Rattle.store.specs.declared.task.Op.{Op}
+use Rattle.store.specs.declared.task.Task.{Task}
+use Rattle.store.specs.declared.task.Task.TheVariants.{Variable, Not, Both, Cofactor}
+use Rattle.diagram.specs.Asked.{peak, Before}
 use Rattle.diagram.specs.Making.{Settled, HalvedTask}
-use Rattle.diagram.specs.Plain.{applied, Plain}
+use Rattle.diagram.specs.Plain.{Plain}
 use Rattle.diagram.specs.Shows.{listed, capacity, showing}
 use Rattle.diagram.proofs.Fields.{sound_of, read_of}
 use Rattle.diagram.proofs.Grown.{grown_posed, grown_peak, grown_asked}

@@ -1,14 +1,15 @@
 -- A function is made by its halves: the low one, then the high one, then both are joined. Each step may find the records full.
 use Rattle.std.proofs.Common.{◌≡◌, ℕ, suc, ◌+◌, ◌<◌, Bool, true, false, cond, length, None, Ok, Err, Result, sym, ◌∙◌, subst, arith}
+use Rattle.store.specs.Tasks.{asked, Posed}
 use Rattle.store.specs.Fun.{Fn, Same}
 use Rattle.nodes.specs.Graph.{value, top}
 use Rattle.nodes.specs.Growth.{Built, Short, Splits, choose}
 use Rattle.nodes.proofs.Build.{built_weaker, built_like, short_weaker, short_like, short_low, short_high, built_both, short_both}
 use Rattle.nodes.proofs.Extend.{ext_trans, top_ext}
 use Rattle.diagram.specs.declared.Diagram.{Diagram}
-use Rattle.diagram.specs.declared.full.Full.{Full}
-use Rattle.diagram.specs.declared.task.Task.{Task}
-use Rattle.diagram.specs.Asked.{asked, peak, Posed, Before}
+use Rattle.records.specs.declared.Full.{Full}
+use Rattle.store.specs.declared.task.Task.{Task}
+use Rattle.diagram.specs.Asked.{peak, Before}
 use Rattle.diagram.specs.Making.{Outcome, Making, Makes, Settled, HalvedTask}
 use Rattle.diagram.specs.Shows.{listed, capacity, showing}
 use Rattle.diagram.proofs.Fields.{sound_at}

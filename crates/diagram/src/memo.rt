@@ -2,7 +2,7 @@
 ghost use Rattle.std.specs.Prelude.{◌≡◌, ◌<◌};
 ghost use Rattle.diagram.specs.Remembered.{key, place, all_blank, updated, Recalls};
 
-use super::task::{Op, Task};
+use store::task::{Op, Task};
 
 const BITS: u32 = 12;
 

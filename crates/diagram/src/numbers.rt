@@ -1,5 +1,5 @@
 // What a diagram knows of its size and of its function numbers.
-ghost use Rattle.std.specs.Prelude.{◌≡◌, ◌+◌, ◌^◌, ◌<◌, ◌≤◌, length, nat_lt};
+ghost use Rattle.std.specs.Prelude.{◌≡◌, ◌+◌, ◌^◌, ◌<◌, ◌≤◌, length};
 ghost use Rattle.store.specs.Meaning.{Lawful};
 ghost use Rattle.nodes.specs.Graph.{top, value};
 ghost use Rattle.nodes.specs.Growth.{Halved};
@@ -7,6 +7,7 @@ ghost use Rattle.diagram.specs.Shows.{listed, capacity, showing, node_under};
 
 use super::Diagram;
 use nodes::Node;
+use store::bits::bit;
 
 impl Diagram<'_> {
     pub(super) fn used(&self) -> u32
@@ -29,10 +30,11 @@ impl Diagram<'_> {
         1 << self.n
     }
 
-    pub(super) fn holds(&self, a: u16) -> bool
-        ensures { result ≡ nat_lt a (length (listed self.now) + 2) }
+    // The numbers below are held: the constants, and one for each node.
+    pub(super) fn held(&self) -> usize
+        ensures { result ≡ length (listed self.now) + 2 }
     {
-        (a as usize) < self.nodes.len() + 2
+        self.nodes.len() + 2
     }
 
     // The node of a number, and none for a constant.
@@ -72,7 +74,7 @@ impl Diagram<'_> {
     {
         let mut at = a;
         while let Some(node) = self.node(at) {
-            at = node.child((w >> node.variable) % 2 == 1);
+            at = node.child(bit(w, node.variable));
         }
         at == 1
     }

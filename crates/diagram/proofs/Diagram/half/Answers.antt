@@ -1,8 +1,9 @@
 use Rattle.std.proofs.Common.{◌≡◌, not, sym, subst}
 use mir.Val.{bool_byte}
-use Rattle.diagram.specs.declared.task.Task.{Task}
-use Rattle.diagram.specs.declared.task.Task.TheVariants.{Not, Cofactor}
-use Rattle.diagram.specs.Asked.{peak, Posed, Before}
+use Rattle.store.specs.Tasks.{Posed}
+use Rattle.store.specs.declared.task.Task.{Task}
+use Rattle.store.specs.declared.task.Task.TheVariants.{Not, Cofactor}
+use Rattle.diagram.specs.Asked.{peak, Before}
 use Rattle.diagram.specs.Making.{HalvedTask}
 use Rattle.diagram.specs.Shows.{listed, showing}
 use Rattle.diagram.proofs.Tasks.{half_variable, half_cofactor}

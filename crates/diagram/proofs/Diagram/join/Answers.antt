@@ -1,10 +1,21 @@
-use Rattle.std.proofs.Common.{◌<◌, length, refl, arith}
+use Rattle.std.proofs.Common.{◌<◌, Ok, refl, arith}
+use Rattle.std.proofs.lemmas.Result.{err_from_is_err_and}
 use Rattle.nodes.proofs.Build.{join_same}
-use Rattle.nodes.proofs.Placing.{placed_ext, placed_sound, found_below, found_built, added_built, full_short}
+use Rattle.nodes.proofs.Placing.{placed_ext, placed_sound, placed_low, placed_built, full_short}
 use Rattle.diagram.specs.Shows.{listed, capacity}
 use Rattle.diagram.proofs.Fields.{sound_of, few_of, right_of}
 use Rattle.diagram.proofs.Remembering.{grown_right}
 use Rattle.diagram.proofs.Diagram.join.Goals as goal
+use Rattle.diagram.proofs.Diagram.join.Goals.{In_ok-find_or_add}
+
+pub returns-then-low-high : goal.returns-then-low-high
+returns-then-low-high c =
+    let d = c.args.self.now in
+    record {
+      vars = refl;
+      capacity = refl;
+      outcome = join_same d.n (listed d) (sound_of d) c.args.variable c.args.low c.args.high c.requires.below c.requires.held c.requires.under c.if-low-high.true;
+    }
 
 pub invariant_of-self : goal.invariant_of-self
 invariant_of-self c =
@@ -21,47 +32,34 @@ invariant_of-self c =
       remembered = ∣ right ∣₁;
     }
 
--- a place that was found is one of the nodes'
-below : (c : goal.In-Found) → c.in-Found.i < length (listed c.args.self.now)
-below c =
+pub returns-in_err-find_or_add : goal.returns-in_err-find_or_add
+returns-in_err-find_or_add c =
     let d = c.args.self.now in
-    found_below d.n (listed d) (capacity d) (sound_of d) c.args.variable c.args.low c.args.high c.requires.below c.requires.held c.requires.under c.if-low-high.false
-    c.in-Found.i _ c.in-Found.ensures.0
-
-pub overflow_cast-result : goal.overflow_cast-result
-overflow_cast-result c = let d = c.args.self.now in omega (arith, below c, few_of d, d.small)
-
-pub overflow_add-result : goal.overflow_add-result
-overflow_add-result c = let d = c.args.self.now in omega (arith, below c, few_of d, d.small)
-
-pub returns-in-Found : goal.returns-in-Found
-returns-in-Found c =
-    let d = c.args.self.now in
-    let p = c.in-Found.ensures in
-    record {
-      vars = refl;
-      capacity = p.1;
-      outcome = found_built d.n (listed d) (capacity d) (sound_of d) c.args.variable c.args.low c.args.high c.requires.below c.requires.held c.requires.under c.if-low-high.false
-          c.in-Found.i _ p.0;
-    }
-
-pub returns-in-Added : goal.returns-in-Added
-returns-in-Added c =
-    let d = c.args.self.now in
-    let p = c.in-Added.ensures in
-    record {
-      vars = refl;
-      capacity = p.1;
-      outcome = added_built d.n (listed d) (capacity d) (sound_of d) c.args.variable c.args.low c.args.high c.requires.below c.requires.held c.requires.under c.if-low-high.false
-          c.in-Added.i _ p.0;
-    }
-
-pub returns-in-Full : goal.returns-in-Full
-returns-in-Full c =
-    let d = c.args.self.now in
-    let p = c.in-Full.ensures in
-    record {
+    let p = c.in_err-find_or_add.ensures in
+    let r = err_from_is_err_and c.from_residual.result c.from_residual.ensures.1 in
+    rw r.1 (record {
       vars = refl;
       capacity = p.1;
       outcome = full_short d.n (listed d) (capacity d) (sound_of d) c.args.variable c.args.low c.args.high c.requires.below c.requires.held c.requires.under c.if-low-high.false _ p.0;
+    })
+
+-- the place is one of the records
+within : (c : In_ok-find_or_add) → c.in_ok-find_or_add.field-0 < capacity c.args.self.now
+within c = let d = c.args.self.now in placed_low (listed d) (capacity d) _ c.in_ok-find_or_add.field-0 _ (few_of d) c.in_ok-find_or_add.ensures.0
+
+pub overflow_cast-result : goal.overflow_cast-result
+overflow_cast-result c = omega (arith, within c, c.args.self.now.small)
+
+pub overflow_add-result : goal.overflow_add-result
+overflow_add-result c = omega (arith, within c, c.args.self.now.small)
+
+pub returns : goal.returns
+returns c =
+    let d = c.args.self.now in
+    let p = c.in_ok-find_or_add.ensures in
+    record {
+      vars = refl;
+      capacity = p.1;
+      outcome = placed_built d.n (listed d) (capacity d) (sound_of d) c.args.variable c.args.low c.args.high c.requires.below c.requires.held c.requires.under c.if-low-high.false
+          c.in_ok-find_or_add.field-0 _ p.0;
     }
