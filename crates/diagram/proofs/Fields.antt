@@ -1,9 +1,9 @@
 -- What the ghost fields of a diagram say.
-use Rattle.std.proofs.Common.{◌≡◌, ℕ, zero, suc, ◌+◌, ◌-◌, ◌<◌, ◌≤◌, length, Some, ap, ◌∙◌, subst, arith}
+use Rattle.std.proofs.Common.{◌≡◌, ℕ, zero, suc, ◌+◌, ◌<◌, ◌≤◌, length, Some, subst, arith}
 use Rattle.records.proofs.Contents.{entries_fit}
 use Rattle.store.specs.Meaning.{Lawful}
 use Rattle.nodes.specs.declared.Node.{Node}
-use Rattle.nodes.specs.Graph.{node, Sound}
+use Rattle.nodes.specs.Graph.{Sound}
 use Rattle.nodes.proofs.Laws.{lawful}
 use Rattle.nodes.proofs.Props.{sound_out}
 use Rattle.nodes.proofs.Reading.{Reads, reads}
@@ -32,7 +32,4 @@ lawful_of d = lawful d.n (capacity d) d.some d.wide d.small (listed d) (few_of d
 pub read_of : (d : Diagram) (a : ℕ) → a < length (listed d) + 2 → (x : Node) → Some x ≡ node_under (listed d) a → Reads d.n (listed d) a x
 read_of d zero h x e = cc
 read_of d (suc zero) h x e = cc
-read_of d (suc (suc k)) h x e =
-    let r = reads d.n (listed d) (sound_of d) (suc (suc k)) (omega arith) h in
-    let j : suc (suc k) - 2 ≡ k = omega arith in
-    subst (Reads d.n (listed d) (suc (suc k))) (ap (node (listed d)) j ∙ (cc)) r
+read_of d (suc (suc k)) h x e = subst (Reads d.n (listed d) (suc (suc k))) (cc) (reads d.n (listed d) (sound_of d) k (omega arith))

@@ -1,5 +1,5 @@
 -- A function is made by its halves: the low one, then the high one, then both are joined. Each step may find the records full.
-use Rattle.std.proofs.Common.{◌≡◌, ℕ, suc, ◌+◌, ◌<◌, Bool, true, false, cond, length, None, Ok, Err, Result, sym, ◌∙◌, subst, arith}
+use Rattle.std.proofs.Common.{◌≡◌, ℕ, suc, ◌<◌, Bool, true, false, cond, None, Ok, Err, Result, sym, ◌∙◌, subst, arith}
 use Rattle.store.specs.Tasks.{asked, Posed}
 use Rattle.store.specs.Fun.{Fn, Same}
 use Rattle.nodes.specs.Graph.{value, top}
@@ -13,7 +13,7 @@ use Rattle.diagram.specs.Asked.{peak, Before}
 use Rattle.diagram.specs.Making.{Outcome, Making, Makes, Settled, HalvedTask}
 use Rattle.diagram.specs.Shows.{listed, capacity, showing}
 use Rattle.diagram.proofs.Fields.{sound_at}
-use Rattle.diagram.proofs.Tasks.{still_posed, still_peak, still_asked, splits_task}
+use Rattle.diagram.proofs.Tasks.{still_peak, still_asked, splits_task}
 
 -- what is made in e, which has as many variables and records as d
 abbrev OutcomeAs : Diagram → Diagram → Diagram → ℕ → Fn → Result ℕ Full → Type 0

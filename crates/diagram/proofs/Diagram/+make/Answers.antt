@@ -1,4 +1,4 @@
-use Rattle.std.proofs.Common.{ℕ, Ok, arith}
+use Rattle.std.proofs.Common.{ℕ, Ok}
 use Rattle.std.proofs.lemmas.Result.{err_from_is_err_and}
 use Rattle.diagram.proofs.Recalling.{recalled, remembered}
 use Rattle.diagram.proofs.Twofold.{Halves, low_stops, high_stops, join_under, joined, join_stops}

@@ -1,7 +1,5 @@
-use Rattle.std.proofs.Common.{◌≡◌, Ok, Err, sym, ◌∙◌, subst, rules}
-use Rattle.store.specs.Tasks.{asked, names, operands, ranges, within, allowed}
+use Rattle.std.proofs.Common.{◌≡◌, Err, sym, rules}
 use Rattle.store.proofs.Replies.{reply_refused, reply_made}
-use Rattle.diagram.specs.Making.{Replies}
 use Rattle.diagram.specs.Shows.{showing}
 use Rattle.diagram.proofs.Fields.{lawful_of}
 use Rattle.diagram.proofs.Replies.{answered}
