@@ -1,6 +1,7 @@
 -- What a diagram shows to the user of a store.
-use Rattle.std.specs.Prelude.{ℕ, zero, suc, Bool, ◌&&◌, List, Option, Some, None, nat_le}
+use Rattle.std.specs.Prelude.{ℕ, zero, suc, Bool, List, Option, Some, None}
 use Rattle.records.specs.Contents.{entries, room}
+use Rattle.store.specs.Fitting.{fits}
 use Rattle.store.specs.Meaning.{Shown}
 use Rattle.nodes.specs.declared.Node.{Node}
 use Rattle.nodes.specs.Graph.{node}
@@ -24,4 +25,4 @@ node_under xs (suc (suc k)) = Some (node xs k)
 
 -- whether a diagram of n variables can be made over so many records
 abbrev pub suits : ℕ → ℕ → Bool
-suits n records = nat_le 1 n && nat_le n 24 && nat_le records 65534
+suits n records = fits n 24 records

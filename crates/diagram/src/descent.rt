@@ -33,6 +33,7 @@ impl Diagram<'_> {
     }
 
     // The number of the task's function where a constant or the fixed variable gives it.
+    // Each step asks that the task is posed: a type that says so would hold the diagram, which grows between the halves.
     fn at_once(&self, task: Task) -> Option<u16>
         requires { Posed (showing self.now) task }
         ensures { Settled self.now task result }
@@ -68,7 +69,7 @@ impl Diagram<'_> {
     {
         match task {
             // The constant t.
-            Task::Variable(_) => Task::Not(!t as u16),
+            Task::Variable(_) => Task::Not(u16::from(!t)),
             Task::Not(a) => Task::Not(self.child(a, variable, t)),
             Task::Both(op, a, b) => {
                 let left = self.child(a, variable, t);

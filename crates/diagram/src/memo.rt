@@ -26,16 +26,16 @@ pub struct Memo {
     slots: [Slot; SLOTS],
 }
 
-// The kind of the task and its operands, side by side.
+// The kind of the task and its operands, side by side. No derived hash: a hasher to take it would say the same in more lines.
 fn key(task: Task) -> u64
     ensures { result ≡ key task }
 {
     let (kind, a, b) = match task {
-        Task::Variable(i) => (0, i as u64, 0),
-        Task::Not(a) => (1, a as u64, 0),
-        Task::Both(Op::And, a, b) => (2, a as u64, b as u64),
-        Task::Both(Op::Or, a, b) => (3, a as u64, b as u64),
-        Task::Cofactor(a, i, t) => (4, a as u64, 2 * i as u64 + t as u64),
+        Task::Variable(i) => (0, u64::from(i), 0),
+        Task::Not(a) => (1, u64::from(a), 0),
+        Task::Both(Op::And, a, b) => (2, u64::from(a), u64::from(b)),
+        Task::Both(Op::Or, a, b) => (3, u64::from(a), u64::from(b)),
+        Task::Cofactor(a, i, t) => (4, u64::from(a), 2 * u64::from(i) + u64::from(t)),
     };
     (kind * 65536 + a) * 65536 + b
 }
