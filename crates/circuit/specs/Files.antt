@@ -2,6 +2,7 @@
 use Rattle.std.specs.Prelude.{ℕ, ◌+◌, ◌*◌, List, map, slice_index}
 use Rattle.std.specs.List.{range_with_len}
 use Rattle.circuit.specs.declared.gate.Gate.{Gate}
+use Rattle.circuit.specs.declared.sizes.Sizes.{Sizes}
 use Rattle.circuit.specs.Netlists.{Netlist}
 
 -- number i of a file: two bytes, low byte first
@@ -17,6 +18,9 @@ inputs bs = number_at bs 1
 
 abbrev pub count : List ℕ → ℕ
 count bs = number_at bs 2
+
+abbrev pub sizes_at : List ℕ → Sizes
+sizes_at bs = record { registers = registers bs; inputs = inputs bs; gates = count bs }
 
 -- all left literals come before all right literals
 abbrev pub gate_at : List ℕ → ℕ → ℕ → Gate

@@ -4,3 +4,4 @@ pub mod Files
 pub mod Rules
 pub mod Reading
 pub mod Steps
+pub mod Texts

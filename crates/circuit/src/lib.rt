@@ -4,9 +4,9 @@
 ghost use Rattle.std.specs.Prelude.{◌≡◌, ℕ, ◌+◌, ◌*◌, ◌/◌, ◌<◌, ◌≤◌, ◌&&◌, List, map, length, take, IfOk, Err, MatchResult, nat_lt, slice_index};
 ghost use Rattle.std.specs.List.{range_with_len};
 ghost use Rattle.circuit.specs.declared.refusal.Refusal.TheVariants.{Wire};
-ghost use Rattle.circuit.specs.Files.{number_at, gate_at};
+ghost use Rattle.circuit.specs.Files.{number_at, sizes_at, gate_at};
 ghost use Rattle.circuit.specs.Lines.{either, touching};
-ghost use Rattle.circuit.specs.Netlists.{Netlist, init_line};
+ghost use Rattle.circuit.specs.Netlists.{Netlist, sizes, init_line};
 ghost use Rattle.circuit.specs.Reading.{netlist, answered, number_of, place_of};
 ghost use Rattle.circuit.specs.Rules.{Wired, Sound, Determined, first_miswired, reading, Tested};
 ghost use Rattle.circuit.specs.Steps.{Sized, drawn, seen};
@@ -18,7 +18,7 @@ pub mod sizes;
 
 use circuit::Circuit;
 use gate::Gate;
-use refusal::Refusal;
+use refusal::{Refusal, Size};
 use sizes::Sizes;
 
 const MOST_REGISTERS: u16 = 8;
@@ -47,7 +47,7 @@ impl Refusal {
     {
         match self {
             Refusal::Length(bytes) => bytes,
-            Refusal::Size(which) => which as usize,
+            Refusal::Size(size) => size as usize,
             Refusal::Width(variables) => variables as usize,
             Refusal::Wire(gate) => gate as usize,
             Refusal::Start(gate) => gate as usize,
@@ -70,29 +70,34 @@ pub fn number_at(file: &[u8], i: u16) -> u16
     byte_at(file, at) as u16 + 256 * byte_at(file, at + 1) as u16
 }
 
+// The sizes at the head of a file.
+pub fn sizes_at(file: &[u8]) -> Sizes
+    ensures { result ≡ sizes_at file.now }
+{
+    Sizes {
+        registers: number_at(file, 0),
+        inputs: number_at(file, 1),
+        gates: number_at(file, 2),
+    }
+}
+
 fn read_sizes(file: &[u8]) -> Result<Sizes, Refusal>
     ensures { MatchResult result (Sized file.now) (λ e. (width : ℕ) → reading width file.now ≡ Err e) }
 {
     if file.len() < 6 {
         return Err(Refusal::Length(file.len()));
     }
-    let registers = number_at(file, 0);
-    let inputs = number_at(file, 1);
-    let gates = number_at(file, 2);
-    if registers < 1 || registers > MOST_REGISTERS {
-        return Err(Refusal::Size(0));
+    let sizes = sizes_at(file);
+    if sizes.registers < 1 || sizes.registers > MOST_REGISTERS {
+        return Err(Refusal::Size(Size::Registers));
     }
-    if inputs > MOST_INPUTS {
-        return Err(Refusal::Size(1));
+    if sizes.inputs > MOST_INPUTS {
+        return Err(Refusal::Size(Size::Inputs));
     }
-    if gates < registers + 1 || gates as usize > MOST_GATES {
-        return Err(Refusal::Size(2));
+    if sizes.gates < sizes.registers + 1 || sizes.gates as usize > MOST_GATES {
+        return Err(Refusal::Size(Size::Gates));
     }
-    Ok(Sizes {
-        registers,
-        inputs,
-        gates,
-    })
+    Ok(sizes)
 }
 
 // The gates of a file: all left literals, then all right literals.
@@ -203,6 +208,16 @@ pub fn read(file: &[u8], width: u8) -> Result<Circuit, Refusal>
 }
 
 impl Circuit {
+    pub fn sizes(&self) -> Sizes
+        ensures { result ≡ sizes (netlist self.now) }
+    {
+        Sizes {
+            registers: self.registers as u16,
+            inputs: self.inputs as u16,
+            gates: self.count,
+        }
+    }
+
     pub fn registers(&self) -> u8
         ensures { result ≡ (netlist self.now).registers }
     {

@@ -1,10 +1,10 @@
 -- A circuit with an assumption and a property, and the system that they are.
-use Rattle.std.specs.Prelude.{◌≡◌, ℕ, ◌+◌, ◌*◌, ◌<◌, ◌≤◌, Bool, false, List, length, Ok}
+use Rattle.std.specs.Prelude.{◌≡◌, ℕ, ◌+◌, ◌*◌, ◌<◌, ◌≤◌, Bool, false, List, Ok}
 use Rattle.store.specs.Fun.{bit}
 use Rattle.circuit.specs.Netlists.{Netlist, gate_line, next_line, init_line}
+pub use Rattle.circuit.specs.Netlists.{sizes}
 use Rattle.circuit.specs.Lines.{Values, line}
 use Rattle.circuit.specs.Rules.{Sound, reading}
-use Rattle.circuit.specs.declared.sizes.Sizes.{Sizes}
 use Rattle.claim.specs.declared.code.Sort.{Sort}
 use Rattle.claim.specs.declared.code.Sort.TheVariants.{Register, Input, Gate}
 use Rattle.claim.specs.Grammar.{Tree, Known}
@@ -38,9 +38,6 @@ system m = record {
   assumed = λ q v. claimed m.circuit (bits q) (bits v) m.assumption;
   property = λ q v. claimed m.circuit (bits q) (bits v) m.property;
 }
-
-abbrev pub sizes : Netlist → Sizes
-sizes c = record { registers = c.registers; inputs = c.inputs; gates = length c.gates }
 
 -- the circuit passes its checks, and there is what each name names
 pub record Valid (m : Model) : Type 0 where

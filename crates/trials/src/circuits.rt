@@ -1,6 +1,6 @@
 // Circuit files at each bound of each check.
 use circuit::read;
-use circuit::refusal::Refusal;
+use circuit::refusal::{Refusal, Size};
 use std::alloc::{AllocError, Global};
 use std::test::Fail;
 
@@ -49,16 +49,16 @@ fn wired(
 #[test]
 fn sizes_are_bounded(rt: HostRuntime) -> Result<(), Fail> {
     let table = [
-        ([0, 0, 1], 1, Err(Refusal::Size(0))),
+        ([0, 0, 1], 1, Err(Refusal::Size(Size::Registers))),
         ([1, 0, 2], 2, Ok((1, 0, 2))),
         ([8, 8, 9], 9, Ok((8, 8, 9))),
-        ([9, 0, 10], 10, Err(Refusal::Size(0))),
-        ([8, 9, 9], 9, Err(Refusal::Size(1))),
-        ([2, 0, 2], 2, Err(Refusal::Size(2))),
+        ([9, 0, 10], 10, Err(Refusal::Size(Size::Registers))),
+        ([8, 9, 9], 9, Err(Refusal::Size(Size::Inputs))),
+        ([2, 0, 2], 2, Err(Refusal::Size(Size::Gates))),
         ([2, 0, 3], 3, Ok((2, 0, 3))),
         ([2, 0, 1024], 1024, Ok((2, 0, 1024))),
-        ([2, 0, 1025], 1025, Err(Refusal::Size(2))),
-        ([65535, 65535, 65535], 0, Err(Refusal::Size(0))),
+        ([2, 0, 1025], 1025, Err(Refusal::Size(Size::Gates))),
+        ([65535, 65535, 65535], 0, Err(Refusal::Size(Size::Registers))),
     ];
     for (sizes, gates, told) in table {
         let file = plain(rt.alloc(), sizes, gates)?;

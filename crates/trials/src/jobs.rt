@@ -1,5 +1,5 @@
 // Job frames, and what is reported of them.
-use circuit::refusal::Refusal;
+use circuit::refusal::{Refusal, Size};
 use claim::fault::Fault as Misreading;
 use job::check as report_on;
 use job::fault::Fault;
@@ -45,7 +45,7 @@ fn frames(rt: HostRuntime) {
     job[4] = 0;
     assert_eq!(rt;
         report_on(&job),
-        Report::Refused(Fault::Circuit(Refusal::Size(0)))
+        Report::Refused(Fault::Circuit(Refusal::Size(Size::Registers)))
     );
 }
 
