@@ -1,4 +1,7 @@
-// What a fault lies in. Its number is that of its line, from 0 on.
+ghost use Rattle.std.specs.Prelude.{◌≡◌};
+ghost use Rattle.description.specs.Faults.{part_number};
+
+// What a fault lies in.
 #[derive(Clone, Copy, PartialEq, Eq, Debug)]
 pub enum Part {
     Job,
@@ -7,4 +10,12 @@ pub enum Part {
     Property,
     Sets,
     Call,
+}
+
+impl Part {
+    pub fn number(self) -> u8
+        ensures { result ≡ part_number self }
+    {
+        self as u8
+    }
 }
