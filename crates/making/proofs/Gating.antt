@@ -5,6 +5,7 @@ use Rattle.store.specs.Fun.{Fn}
 use Rattle.store.specs.Meaning.{Shown, Lawful}
 use Rattle.circuit.specs.declared.gate.Gate.{Gate}
 use Rattle.circuit.specs.Netlists.{blank, gate, gate_line, lines}
+use Rattle.description.specs.declared.part.Part.TheVariants.{Circuit}
 use Rattle.runs.specs.Functions.{both}
 use Rattle.runs.specs.Valuations.{literal_fn, line_fn}
 use Rattle.runs.specs.Models.{Model, Valid}
@@ -29,11 +30,11 @@ module _ (m : Model) (ok : Valid m) (s : Shown) where
 
   module _ (t u : Shown) (ns : List ℕ) (k : ℕ) (lt : k < length m.circuit.gates) (sofar : Sofar t ns k) where
     pub gate_ends : (gs : List Gate) (r : Result ℕ Refusal) → gs ≡ m.circuit.gates → GatesOne t ns (get_or gs k blank) r u
-        → Ends plain t u (at 1 k (gate_list (line_fn m) (gate m.circuit k))) (λ a. Lawful u × Means u a (fn_of k)) r
+        → Ends plain t u (at Circuit k (gate_list (line_fn m) (gate m.circuit k))) (λ a. Lawful u × Means u a (fn_of k)) r
     gate_ends gs r e h =
-        subst (λ (xs : List Gate). GatesOne t ns (get_or xs k blank) r u) e h 1 k (line_fn m) (sofar.1 _ (ok.circuit.wired k lt).0) (sofar.1 _ (ok.circuit.wired k lt).1)
+        subst (λ (xs : List Gate). GatesOne t ns (get_or xs k blank) r u) e h Circuit k (line_fn m) (sofar.1 _ (ok.circuit.wired k lt).0) (sofar.1 _ (ok.circuit.wired k lt).1)
 
-    pub gate_more : (a : ℕ) → Runs t (at 1 k (gate_list (line_fn m) (gate m.circuit k))) u × (Lawful u × Means u a (fn_of k)) → lines m.circuit ≤ length ns
+    pub gate_more : (a : ℕ) → Runs t (at Circuit k (gate_list (line_fn m) (gate m.circuit k))) u × (Lawful u × Means u a (fn_of k)) → lines m.circuit ≤ length ns
         → Sofar u (set ns (gate_line m.circuit k) a) (k + 1)
     gate_more a b room =
         let e : suc (gate_line m.circuit k) ≡ gate_line m.circuit (k + 1) = omega arith in (

@@ -4,6 +4,7 @@ use Rattle.store.specs.Fun.{Fn, bit}
 use Rattle.store.specs.Meaning.{Shown, Lawful}
 use Rattle.circuit.specs.Netlists.{Netlist}
 use Rattle.claim.specs.Grammar.{Tree}
+use Rattle.description.specs.declared.part.Part.TheVariants.{Circuit}
 use Rattle.runs.specs.Functions.{input}
 use Rattle.runs.specs.Valuations.{line_fn}
 use Rattle.runs.specs.Models.{Model, Valid}
@@ -27,11 +28,11 @@ upto_add F a (suc b) =
 
 -- the variables of the registers and their copies, then of the inputs
 pub variables_join : (m : Model) (rest : List Item)
-    → variables_list (2 * m.circuit.registers) ++ (upto m.circuit.inputs (λ j. at 1 0 (bit (input m.circuit.registers j) ∷ [])) ++ rest)
+    → variables_list (2 * m.circuit.registers) ++ (upto m.circuit.inputs (λ j. at Circuit 0 (bit (input m.circuit.registers j) ∷ [])) ++ rest)
     ≡ variables_list (width m) ++ rest
 variables_join m rest =
     sym (append_assoc (variables_list (2 * m.circuit.registers)) _ rest)
-    ∙ ap (λ k. k ++ rest) (sym (upto_add (λ i. at 1 0 (bit i ∷ [])) (2 * m.circuit.registers) m.circuit.inputs))
+    ∙ ap (λ k. k ++ rest) (sym (upto_add (λ i. at Circuit 0 (bit i ∷ [])) (2 * m.circuit.registers) m.circuit.inputs))
 
 -- line 0 is number 0
 pub zeroth : (m : Model) → Valid m → (s : Shown) → Lawful s → (ns : List ℕ) → get_or ns 0 0 ≡ 0 → Numbered s ns (line_fn m) 1

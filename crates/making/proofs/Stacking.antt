@@ -10,6 +10,7 @@ use Rattle.claim.specs.declared.code.Sort.{Sort}
 use Rattle.claim.specs.declared.code.Sort.TheVariants.{Register, Input, Gate}
 use Rattle.claim.specs.declared.code.Act.TheVariants.{Constant, Name, Not, And, Or}
 use Rattle.claim.specs.Grammar.{named, limit}
+use Rattle.description.specs.declared.part.Part.{Part}
 use Rattle.runs.specs.Functions.{negated, both, either}
 use Rattle.runs.specs.Valuations.{name_line, line_fn, claim_fn}
 use Rattle.runs.specs.Models.{Model, sizes, Valid}
@@ -46,7 +47,7 @@ named_below c Register i b = omega arith
 named_below c Input i b = omega arith
 named_below c Gate i b = omega arith
 
-module _ (m : Model) (ok : Valid m) (p l : ℕ) {s : Shown} (st : List ℕ) (h : ℕ) where
+module _ (m : Model) (ok : Valid m) (p : Part) (l : ℕ) {s : Shown} (st : List ℕ) (h : ℕ) where
   pub on_constant : (b : Bool) {fs gs k : List Fn} → Standing s st h fs → h < length st → Acts m (Constant b) fs k gs
       → Ends plain s s (at p l k) (λ i. Standing s (set st h (bool_byte b)) i gs) (Ok (h + 1))
   on_constant b d room a_constant = put_on st h (bool_byte b) d room (constant_means d.lawful b)
@@ -59,7 +60,7 @@ module _ (m : Model) (ok : Valid m) (p l : ℕ) {s : Shown} (st : List ℕ) (h :
       (subst (λ a. Means s a (claim_fn m (named 0 o i))) (sym e) (record { held = k.held; same = λ w j. k.same w j ∙ (functions_exact m ok).lined.claims (named 0 o i) b w }))
 
 -- an operator of one operand, and one of two
-module _ (p l : ℕ) {s t : Shown} (st : List ℕ) (x : Result ℕ Refusal) (lawful : Lawful s) (after : Lawful t) where
+module _ (p : Part) (l : ℕ) {s t : Shown} (st : List ℕ) (x : Result ℕ Refusal) (lawful : Lawful s) (after : Lawful t) where
   on_one : (i : ℕ) (f g : Fn) (xs : List Fn) (h : ℕ) → i ≡ h - 1 → h < length st → Stacked s st h (f ∷ xs) → (Means s (get_or st i 0) f → Answers s t g x)
       → Ends plain s t (at p l (g ∷ [])) (λ a. Standing t (set st i a) h (g ∷ xs)) x
   on_one i f g xs zero e room d answers = elim d [ ]
@@ -84,7 +85,7 @@ module _ (p l : ℕ) {s t : Shown} (st : List ℕ) (x : Result ℕ Refusal) (law
       })
       (gives_last lawful x (answers (subst (λ k. Means s (get_or st k 0) f) z m₁) (subst (λ k. Means s (get_or st k 0) g) z' m)))
 
-module _ (m : Model) (p l : ℕ) {s t : Shown} (st : List ℕ) (h : ℕ) where
+module _ (m : Model) (p : Part) (l : ℕ) {s t : Shown} (st : List ℕ) (h : ℕ) where
   pub on_not : (i : ℕ) (x : Result ℕ Refusal) {fs gs k : List Fn} → i ≡ h - 1 → Standing s st h fs → h < length st → Acts m Not fs k gs
       → Reply s t (s.held (get_or st i 0)) true (λ w. not (s.value (get_or st i 0) w)) x → Ends plain s t (at p l k) (λ a. Standing t (set st i a) h gs) x
   on_not i x e d room (a_not {f = f} {fs = xs}) y = on_one p l st x y.lawful y.after i f (negated f) xs h e room d.stacked (not_answers y)

@@ -5,6 +5,7 @@ use Rattle.store.specs.Fun.{Fn, bit}
 use Rattle.store.specs.Meaning.{Shown, Lawful}
 use Rattle.store.specs.Calls.{MakesAnd}
 use Rattle.circuit.specs.Netlists.{lines, next_line, init_line}
+use Rattle.description.specs.declared.part.Part.{Part}
 use Rattle.runs.specs.Functions.{copy, negated, both, first_of, quantified}
 use Rattle.runs.specs.Valuations.{line_fn, next_fn, init_fn}
 use Rattle.runs.specs.Models.{Model, Valid}
@@ -18,7 +19,7 @@ use Rattle.making.specs.Promises.{MakesFirst, Negates}
 use Rattle.making.proofs.Steps.{and_answers, gives_last}
 use Rattle.making.proofs.Placing.{Lies, lies_at, lies_++, lies_upto}
 
-pub lies_start : (p l n k : ℕ) (h q init : Fn) (next : ℕ → Fn) → Lies p l (start_list p l n k h q init next)
+pub lies_start : (p : Part) (l n k : ℕ) (h q init : Fn) (next : ℕ → Fn) → Lies p l (start_list p l n k h q init next)
 lies_start p l n k h q init next =
     lies_++ p l (first_list p l n k h q) _
     (refl, refl, (refl, refl, lies_upto p l _ (λ j. lies_at p l (halves_list (2 * n + j) (quantified (2 * n) (both (negated q) h) j))) k)) (
@@ -27,7 +28,7 @@ lies_start p l n k h q init next =
       lies_++ p l (negations_list p l (λ i. bit (copy i)) n) _ (lies_upto p l _ (λ i. (refl, refl, tt)) n) (lies_upto p l _ (λ i. (refl, refl, tt)) n),
     )
 
-module _ (m : Model) (ok : Valid m) (p l : ℕ) (h q : Fn) (s : Shown) where
+module _ (m : Model) (ok : Valid m) (p : Part) (l : ℕ) (h q : Fn) (s : Shown) where
   abbrev set_fn : Fn
   set_fn = first_of m.circuit.registers m.circuit.inputs h q
 

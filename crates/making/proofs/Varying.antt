@@ -5,6 +5,7 @@ use Rattle.store.specs.Fun.{bit}
 use Rattle.store.specs.Meaning.{Shown, Made}
 use Rattle.store.specs.Calls.{MakesVariable}
 use Rattle.circuit.specs.Netlists.{lines, input_line}
+use Rattle.description.specs.declared.part.Part.TheVariants.{Circuit}
 use Rattle.runs.specs.Functions.{copy, input}
 use Rattle.runs.specs.Valuations.{line_fn}
 use Rattle.runs.specs.Models.{Model, Valid}
@@ -29,7 +30,7 @@ module _ (m : Model) (ok : Valid m) (s : Shown) (wide : width m ≤ s.vars) wher
     pub register_refused : (u : Shown) (e : Refusal) {X : Type 0} {P : X → Type 0} → MakesVariable t (2 * i) (Err e) u
         → Ends plain s u (variables_list (2 * m.circuit.registers)) P (Err e)
     register_refused u e y =
-        ends_upto (λ k. at 1 0 (bit k ∷ [])) (suc (2 * i)) (2 * m.circuit.registers) (omega arith)
+        ends_upto (λ k. at Circuit 0 (bit k ∷ [])) (suc (2 * i)) (2 * m.circuit.registers) (omega arith)
         (ends_after sofar.0 (gives_last y.lawful (Err e) (variable_answers y (known t (2 * i) (runs_grown sofar.0).vars (omega arith)))))
 
     module _ (t₁ : Shown) (a : ℕ) (y : MakesVariable t (2 * i) (Ok a) t₁) where
@@ -42,7 +43,7 @@ module _ (m : Model) (ok : Valid m) (s : Shown) (wide : width m ≤ s.vars) wher
       pub copy_refused : (u : Shown) (e : Refusal) {X : Type 0} {P : X → Type 0} → MakesVariable t₁ (2 * i + 1) (Err e) u
           → Ends plain s u (variables_list (2 * m.circuit.registers)) P (Err e)
       copy_refused u e z =
-          ends_upto (λ k. at 1 0 (bit k ∷ [])) (suc (2 * i + 1)) (2 * m.circuit.registers) (omega arith)
+          ends_upto (λ k. at Circuit 0 (bit k ∷ [])) (suc (2 * i + 1)) (2 * m.circuit.registers) (omega arith)
           (ends_after runs_register (gives_last z.lawful (Err e) (variable_answers z (known t₁ (2 * i + 1) (runs_grown runs_register).vars (omega arith)))))
 
       pub registers_more : (u : Shown) (b : ℕ) → MakesVariable t₁ (2 * i + 1) (Ok b) u → lines m.circuit ≤ length ns → i < length cs
@@ -63,13 +64,13 @@ module _ (m : Model) (ok : Valid m) (s : Shown) (wide : width m ≤ s.vars) wher
 
   -- the variables of the first j inputs are made
   abbrev pub Inputs : Shown → List ℕ → ℕ → Type 0
-  Inputs t ns j = Runs s (upto j (λ j. at 1 0 (bit (input m.circuit.registers j) ∷ []))) t × Numbered t ns (line_fn m) (input_line m.circuit j)
+  Inputs t ns j = Runs s (upto j (λ j. at Circuit 0 (bit (input m.circuit.registers j) ∷ []))) t × Numbered t ns (line_fn m) (input_line m.circuit j)
 
   module _ (t : Shown) (ns : List ℕ) (j : ℕ) (lt : j < m.circuit.inputs) (sofar : Inputs t ns j) where
     pub input_refused : (u : Shown) (e : Refusal) {X : Type 0} {P : X → Type 0} → MakesVariable t (input m.circuit.registers j) (Err e) u
-        → Ends plain s u (upto m.circuit.inputs (λ j. at 1 0 (bit (input m.circuit.registers j) ∷ []))) P (Err e)
+        → Ends plain s u (upto m.circuit.inputs (λ j. at Circuit 0 (bit (input m.circuit.registers j) ∷ []))) P (Err e)
     input_refused u e y =
-        ends_upto (λ j. at 1 0 (bit (input m.circuit.registers j) ∷ [])) (suc j) m.circuit.inputs lt
+        ends_upto (λ j. at Circuit 0 (bit (input m.circuit.registers j) ∷ [])) (suc j) m.circuit.inputs lt
         (ends_after sofar.0 (gives_last y.lawful (Err e) (variable_answers y (known t (input m.circuit.registers j) (runs_grown sofar.0).vars (omega arith)))))
 
     pub inputs_more : (u : Shown) (a : ℕ) → MakesVariable t (input m.circuit.registers j) (Ok a) u → lines m.circuit ≤ length ns
@@ -78,7 +79,7 @@ module _ (m : Model) (ok : Valid m) (s : Shown) (wide : width m ≤ s.vars) wher
         let k : Made t u (bit (input m.circuit.registers j)) a = variable_answers y (known t (input m.circuit.registers j) (runs_grown sofar.0).vars (omega arith)) in
         let f = fresh k in
         let d : suc (input_line m.circuit j) ≡ input_line m.circuit (j + 1) = omega arith in (
-          subst (λ n. Runs s (upto n (λ j. at 1 0 (bit (input m.circuit.registers j) ∷ []))) u) (sym (add-one j)) (runs_join sofar.0 (went a y.lawful k ended)),
+          subst (λ n. Runs s (upto n (λ j. at Circuit 0 (bit (input m.circuit.registers j) ∷ []))) u) (sym (add-one j)) (runs_join sofar.0 (went a y.lawful k ended)),
           subst (λ n. Numbered u (set ns (input_line m.circuit j) a) (line_fn m) n) d
               (numbered_more ns (line_fn m) (input_line m.circuit j) a sofar.1 k.grown
               (record { held = f.held; same = λ w h. f.same w h ∙ sym ((functions_exact m ok).lined.input j lt w) }) (omega arith)),

@@ -5,6 +5,7 @@ use Rattle.store.specs.Fun.{Fn}
 use Rattle.store.specs.Meaning.{Shown, Lawful}
 use Rattle.claim.specs.declared.code.Code.{Code}
 use Rattle.claim.specs.Grammar.{Tree, const, named, neg, conj, disj, post, Known}
+use Rattle.description.specs.declared.part.Part.{Part}
 use Rattle.making.specs.declared.fault.Fault.{Fault}
 use Rattle.runs.specs.Valuations.{claim_fn}
 use Rattle.runs.specs.Models.{Model, sizes}
@@ -15,12 +16,12 @@ use Rattle.making.specs.Ends.{Ends, plain, located, placed}
 use Rattle.making.proofs.Steps.{runs_join, ends_after, ends_before}
 use Rattle.making.proofs.Placing.{lies_at, placed_err, placed_ok}
 
-walks_join : {m : Model} {part : ℕ} {xs ys : List Code} {fs gs hs : List Fn} {l k : List Item} → Walks m part xs fs l gs → Walks m part ys gs k hs → Walks m part (xs ++ ys) fs (l ++ k) hs
+walks_join : {m : Model} {part : Part} {xs ys : List Code} {fs gs hs : List Fn} {l k : List Item} → Walks m part xs fs l gs → Walks m part ys gs k hs → Walks m part (xs ++ ys) fs (l ++ k) hs
 walks_join w_none v = v
 walks_join {m = m} {part = part} {ys = ys} {hs = hs} {k = k} (w_step {x = x} {xs = xs} {fs = fs} {l = a} {k = b} o w) v =
     subst (λ i. Walks m part (x ∷ (xs ++ ys)) fs i hs) (sym (append_assoc (at part x.place a) b k)) (w_step o (walks_join w v))
 
-post_walks : (m : Model) (part : ℕ) (t : Tree) (fs : List Fn) → Known (sizes m.circuit) t → Walks m part (post t) fs (operators_list m part t) (claim_fn m t ∷ fs)
+post_walks : (m : Model) (part : Part) (t : Tree) (fs : List Fn) → Known (sizes m.circuit) t → Walks m part (post t) fs (operators_list m part t) (claim_fn m t ∷ fs)
 post_walks m part (const p b) fs k = w_step a_constant w_none
 post_walks m part (named p s i) fs k = w_step (a_name k) w_none
 post_walks m part (neg p t) fs k = walks_join (post_walks m part t fs k) (w_step a_not w_none)
@@ -29,7 +30,7 @@ post_walks m part (conj p t u) fs k =
 post_walks m part (disj p t u) fs k =
     walks_join (post_walks m part t fs k.0) (walks_join (post_walks m part u (claim_fn m t ∷ fs) k.1) (w_step a_or w_none))
 
-module _ (m : Model) (part : ℕ) (s : Shown) where
+module _ (m : Model) (part : Part) (s : Shown) where
   pub going_start : (stack : List ℕ) (xs : List Code) (t : Tree) → xs ≡ post t → Known (sizes m.circuit) t → Lawful s
       → Going m part s s stack 0 xs (operators_list m part t) (claim_fn m t ∷ [])
   going_start stack xs t e k l = record {
@@ -44,7 +45,7 @@ module _ (m : Model) (part : ℕ) (s : Shown) where
 
   module _ (t u : Shown) (stack stack' : List ℕ) (high : ℕ) (x : Code) (xs : List Code) (all : List Item) (end : List Fn)
       (going : Going m part s t stack high (x ∷ xs) all end) (r : Result ℕ Refusal) {z : Result ℕ Fault} (is : z ≡ placed part x.place r)
-      (acting : (p l : ℕ) (fs gs k : List Fn) → Standing t stack high fs → Acts m x.act fs k gs → Ends plain t u (at p l k) (λ h. Standing u stack' h gs) r) where
+      (acting : (p : Part) (l : ℕ) (fs gs k : List Fn) → Standing t stack high fs → Acts m x.act fs k gs → Ends plain t u (at p l k) (λ h. Standing u stack' h gs) r) where
     pub going_next : {high' : ℕ} → z ≡ Ok high' → Going m part s u stack' high' xs all end
     going_next {high'} was = by going.on_stack going.rest going.walks going.standing going.together
       where

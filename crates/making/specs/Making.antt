@@ -2,15 +2,16 @@
 use Rattle.std.specs.Prelude.{◌≡◌, ℕ, zero, suc, ◌<◌, true, cond, List, [], ◌∷◌, ◌++◌, slice_index}
 use Rattle.store.specs.Fun.{Fn, Same}
 use Rattle.store.specs.Meaning.{Shown, Lawful, Made, holds, price, free}
+use Rattle.description.specs.declared.part.Part.{Part}
 
 -- a making call, by its result, with the part and the place of its refusal
 pub record Item : Type 0 where
-  pub part : ℕ
+  pub part : Part
   pub place : ℕ
   pub fn : Fn
 
 -- calls of one part and place
-abbrev pub at : ℕ → ℕ → List Fn → List Item
+abbrev pub at : Part → ℕ → List Fn → List Item
 at p l [] = []
 at p l (f ∷ fs) = record { part = p; place = l; fn = f } ∷ at p l fs
 

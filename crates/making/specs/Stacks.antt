@@ -7,6 +7,7 @@ use Rattle.claim.specs.declared.code.Act.{Act}
 use Rattle.claim.specs.declared.code.Act.TheVariants.{Constant, Name, Not, And, Or}
 use Rattle.claim.specs.declared.code.Code.{Code}
 use Rattle.claim.specs.Grammar.{named, limit}
+use Rattle.description.specs.declared.part.Part.{Part}
 use Rattle.runs.specs.Functions.{negated, both, either}
 use Rattle.runs.specs.Valuations.{claim_fn}
 use Rattle.runs.specs.Models.{Model, sizes}
@@ -30,12 +31,12 @@ pub data Acts (m : Model) : Act → List Fn → List Fn → List Fn → Type 0 w
   a_or : {f g : Fn} {fs : List Fn} → Acts m Or (g ∷ f ∷ fs) (either f g ∷ []) (either f g ∷ fs)
 
 -- codes one after the other
-pub data Walks (m : Model) (part : ℕ) : List Code → List Fn → List Item → List Fn → Type 0 where
+pub data Walks (m : Model) (part : Part) : List Code → List Fn → List Item → List Fn → Type 0 where
   w_none : {fs : List Fn} → Walks m part [] fs [] fs
   w_step : {x : Code} {xs : List Code} {fs gs hs l : List Fn} {k : List Item} → Acts m x.act fs l gs → Walks m part xs gs k hs → Walks m part (x ∷ xs) fs (at part x.place l ++ k) hs
 
 -- part of a list of codes is walked
-pub record Going (m : Model) (part : ℕ) (s t : Shown) (stack : List ℕ) (high : ℕ) (left : List Code) (all : List Item) (end : List Fn) : Type 0 where
+pub record Going (m : Model) (part : Part) (s t : Shown) (stack : List ℕ) (high : ℕ) (left : List Code) (all : List Item) (end : List Fn) : Type 0 where
   pub done : List Item
   pub rest : List Item
   pub on_stack : List Fn

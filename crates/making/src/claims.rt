@@ -9,6 +9,7 @@ use crate::fault::Fault;
 use crate::places::place_at;
 use circuit::circuit::Circuit;
 use claim::code::{Act, Code, Sort};
+use description::part::Part;
 use store::Store;
 use store::refusal::Refusal;
 
@@ -80,7 +81,7 @@ fn act_on<S: Store>(
 // The number of the claim that the codes say.
 pub(crate) fn make_claim<S: Store>(
     store: &mut S,
-    part: u8,
+    part: Part,
     circuit: &Circuit,
     codes: &[Code],
     numbers: &[u16],

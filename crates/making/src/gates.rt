@@ -9,6 +9,7 @@ use crate::fault::Fault;
 use crate::places::place_at;
 use circuit::circuit::Circuit;
 use circuit::gate::Gate;
+use description::part::Part;
 use store::Store;
 use store::refusal::Refusal;
 
@@ -43,7 +44,11 @@ pub(crate) fn make_gates<S: Store>(
     let first = 1 + circuit.registers() as usize + circuit.inputs() as usize;
     let gates = circuit.gates();
     for g in 0..gates.len() {
-        let a = place_at(conjunction(store, numbers, gates[g]), 1, g as u16)?;
+        let a = place_at(
+            conjunction(store, numbers, gates[g]),
+            Part::Circuit,
+            g as u16,
+        )?;
         numbers[first + g] = a;
     }
     Ok(())

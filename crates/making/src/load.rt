@@ -15,6 +15,7 @@ use crate::start::make_start;
 use crate::variables::{make_inputs, make_registers};
 use circuit::circuit::Circuit;
 use claim::codes::Codes;
+use description::part::Part;
 use store::Store;
 
 // Line 0, and most registers, inputs and gates.
@@ -31,8 +32,12 @@ fn make_lines<S: Store>(
     requires copied { 8 ≤ length copies.old }
     ensures { MakesLines (S.Store.shows store.old) (alone (netlist circuit.now)) numbers.old result numbers.new copies.new (S.Store.shows store.new) }
 {
-    place_at(make_registers(store, circuit, numbers, copies), 1, 0)?;
-    place_at(make_inputs(store, circuit, numbers), 1, 0)?;
+    place_at(
+        make_registers(store, circuit, numbers, copies),
+        Part::Circuit,
+        0,
+    )?;
+    place_at(make_inputs(store, circuit, numbers), Part::Circuit, 0)?;
     make_gates(store, circuit, numbers)
 }
 
@@ -48,11 +53,17 @@ pub fn build<S: Store>(
     let mut numbers = [0; MOST_LINES];
     let mut copies = [0; 8];
     make_lines(store, circuit, &mut numbers, &mut copies)?;
-    let assumed = make_claim(store, 2, circuit, assumption.codes(), &numbers)?;
-    let promised = make_claim(store, 3, circuit, property.codes(), &numbers)?;
+    let assumed = make_claim(
+        store,
+        Part::Assumption,
+        circuit,
+        assumption.codes(),
+        &numbers,
+    )?;
+    let promised = make_claim(store, Part::Property, circuit, property.codes(), &numbers)?;
     place_at(
         make_start(store, circuit, &numbers, copies, assumed, promised),
-        4,
+        Part::Sets,
         0,
     )
 }

@@ -1,6 +1,7 @@
 use Rattle.std.proofs.Common.{◌≡◌, suc, ◌+◌, ◌/◌, ◌<◌, length, get_or, set, sym, ap, subst, arith}
 use Rattle.circuit.specs.Netlists.{blank, gate, gate_line}
 use Rattle.circuit.specs.Reading.{netlist}
+use Rattle.description.specs.declared.part.Part.TheVariants.{Circuit}
 use Rattle.making.specs.Making.{at}
 use Rattle.runs.specs.Valuations.{line_fn}
 use Rattle.making.specs.Models.{alone}
@@ -46,8 +47,8 @@ returns-in_err-a g c h =
     let r = c.loop-g.invariant h in
     let q = gate_ends m ok s t u c.loop-g.numbers k lt r c.gates-gates.result.now c.conjunction.result c.gates-gates.ensures c.conjunction.ensures in
     broke c.from_residual.result c.in_err-a.field-0.0 c.from_residual.ensures.1
-    (ends_upto (λ i. at 1 i (gate_list (line_fn m) (gate n i))) (suc k) (length n.gates) lt
-    (ends_after r.0 (placed_err 1 k c.conjunction.result c.place_at.ensures (lies_at 1 k _) q c.in_err-a.was)))
+    (ends_upto (λ i. at Circuit i (gate_list (line_fn m) (gate n i))) (suc k) (length n.gates) lt
+    (ends_after r.0 (placed_err Circuit k c.conjunction.result c.place_at.ensures (lies_at Circuit k _) q c.in_err-a.was)))
 
 pub loop-g-preserved : goal.loop-g-preserved
 loop-g-preserved g c h =
@@ -61,7 +62,7 @@ loop-g-preserved g c h =
     let u = g.S.Store.shows c.conjunction.new.store in
     let r = c.loop-g.invariant h in
     let q = gate_ends m ok s t u c.loop-g.numbers k lt r c.gates-gates.result.now c.conjunction.result c.gates-gates.ensures c.conjunction.ensures in
-    let b = placed_ok 1 k c.conjunction.result c.place_at.ensures (lies_at 1 k _) q c.in_ok-a.was in
+    let b = placed_ok Circuit k c.conjunction.result c.place_at.ensures (lies_at Circuit k _) q c.in_ok-a.was in
     let e : gate_line n k ≡ 1 + c.registers.result + c.inputs.result + k = omega (arith, c.registers.ensures, c.inputs.ensures) in
     subst (λ i. Sofar m ok s u (set c.loop-g.numbers i c.in_ok-a.a) (k + 1)) e
     (gate_more m ok s t u c.loop-g.numbers k lt r c.in_ok-a.a b (omega (arith, c.requires, c.loop-g.auto.numbers)))

@@ -4,6 +4,7 @@ use Rattle.store.specs.Fun.{bit}
 use Rattle.store.specs.Meaning.{Lawful}
 use Rattle.circuit.specs.Netlists.{lines}
 use Rattle.circuit.specs.Reading.{netlist}
+use Rattle.description.specs.declared.part.Part.TheVariants.{Assumption, Property, Sets}
 use Rattle.runs.specs.Functions.{copy}
 use Rattle.runs.specs.Valuations.{line_fn, claim_fn, next_fn, init_fn}
 use Rattle.making.specs.Models.{model, alone, width}
@@ -68,7 +69,7 @@ returns-in_err-assumed g c h q eh eq kh kq l w =
     let assumed = c.make_claim.ensures h (c.codes.ensures ∙ eh) kh r1.1.0 r1.1.1 in
     broke c.from_residual-in_err-assumed.result c.in_err-assumed.field-0.0 c.from_residual-in_err-assumed.ensures.1
     (ends_as (append_assoc V G _) (ends_after r1.0 (ends_before _
-    (subst (Ends located t1 t2 (operators_list m 2 h) (λ a. Lawful t2 × Means t2 a (claim_fn m h))) c.in_err-assumed.was assumed))))
+    (subst (Ends located t1 t2 (operators_list m Assumption h) (λ a. Lawful t2 × Means t2 a (claim_fn m h))) c.in_err-assumed.was assumed))))
 
 pub returns-in_err-promised : goal.returns-in_err-promised
 returns-in_err-promised g c h q eh eq kh kq l w =
@@ -85,14 +86,14 @@ returns-in_err-promised g c h q eh eq kh kq l w =
     let g1 = runs_grown r1.0 in
     let t2 = g.S.Store.shows c.make_claim.new.store in
     let assumed = c.make_claim.ensures h (c.codes.ensures ∙ eh) kh r1.1.0 r1.1.1 in
-    let r2 = runs_of (subst (Ends located t1 t2 (operators_list m 2 h) (λ a. Lawful t2 × Means t2 a (claim_fn m h))) c.in_ok-assumed.was assumed) in
+    let r2 = runs_of (subst (Ends located t1 t2 (operators_list m Assumption h) (λ a. Lawful t2 × Means t2 a (claim_fn m h))) c.in_ok-assumed.was assumed) in
     let g2 = runs_grown r2.0 in
     let t3 = g.S.Store.shows c.make_claim-2.new.store in
     let ln2 = numbered_kept ns (line_fn m) (lines n) g2 r1.1.1 in
     let promised = c.make_claim-2.ensures q (c.codes-2.ensures ∙ eq) kq r2.1.0 ln2 in
     broke c.from_residual-in_err-promised.result c.in_err-promised.field-0.0 c.from_residual-in_err-promised.ensures.1
     (ends_as (append_assoc V G _) (ends_after r1.0 (ends_after r2.0 (ends_before _
-    (subst (Ends located t2 t3 (operators_list m 3 q) (λ a. Lawful t3 × Means t3 a (claim_fn m q))) c.in_err-promised.was promised)))))
+    (subst (Ends located t2 t3 (operators_list m Property q) (λ a. Lawful t3 × Means t3 a (claim_fn m q))) c.in_err-promised.was promised)))))
 
 pub returns : goal.returns
 returns g c h q eh eq kh kq l w =
@@ -109,18 +110,18 @@ returns g c h q eh eq kh kq l w =
     let g1 = runs_grown r1.0 in
     let t2 = g.S.Store.shows c.make_claim.new.store in
     let assumed = c.make_claim.ensures h (c.codes.ensures ∙ eh) kh r1.1.0 r1.1.1 in
-    let r2 = runs_of (subst (Ends located t1 t2 (operators_list m 2 h) (λ a. Lawful t2 × Means t2 a (claim_fn m h))) c.in_ok-assumed.was assumed) in
+    let r2 = runs_of (subst (Ends located t1 t2 (operators_list m Assumption h) (λ a. Lawful t2 × Means t2 a (claim_fn m h))) c.in_ok-assumed.was assumed) in
     let g2 = runs_grown r2.0 in
     let t3 = g.S.Store.shows c.make_claim-2.new.store in
     let ln2 = numbered_kept ns (line_fn m) (lines n) g2 r1.1.1 in
     let promised = c.make_claim-2.ensures q (c.codes-2.ensures ∙ eq) kq r2.1.0 ln2 in
-    let r3 = runs_of (subst (Ends located t2 t3 (operators_list m 3 q) (λ a. Lawful t3 × Means t3 a (claim_fn m q))) c.in_ok-promised.was promised) in
+    let r3 = runs_of (subst (Ends located t2 t3 (operators_list m Property q) (λ a. Lawful t3 × Means t3 a (claim_fn m q))) c.in_ok-promised.was promised) in
     let g3 = runs_grown r3.0 in
     let g23 = grown_more g2 g3 in
     let t4 = g.S.Store.shows c.make_start.new.store in
-    let started = c.make_start.ensures 4 0 (claim_fn m h) (claim_fn m q) (subst (λ v. width m ≤ v) (sym (grown_more g1 g23).vars) w)
+    let started = c.make_start.ensures Sets 0 (claim_fn m h) (claim_fn m q) (subst (λ v. width m ≤ v) (sym (grown_more g1 g23).vars) w)
     (numbered_kept ns (line_fn m) (lines n) g3 ln2) (numbered_kept cs (λ i. bit (copy i)) n.registers g23 r1.1.2) (kept g3 r2.1.1) r3.1.1 in
     ends_as (append_assoc V G _) (ends_after r1.0 (ends_after r2.0 (ends_after r3.0
-    (subst (Ends located t3 t4 (start_list 4 0 n.registers n.inputs (claim_fn m h) (claim_fn m q) (init_fn m) (next_fn m)) (Loaded t4 m (claim_fn m h) (claim_fn m q))) (sym c.place_at.ensures)
-    (gained 4 0 (lies_start 4 0 n.registers n.inputs (claim_fn m h) (claim_fn m q) (init_fn m) (next_fn m))
+    (subst (Ends located t3 t4 (start_list Sets 0 n.registers n.inputs (claim_fn m h) (claim_fn m q) (init_fn m) (next_fn m)) (Loaded t4 m (claim_fn m h) (claim_fn m q))) (sym c.place_at.ensures)
+    (gained Sets 0 (lies_start Sets 0 n.registers n.inputs (claim_fn m h) (claim_fn m q) (init_fn m) (next_fn m))
     (ends_with {Q = Loaded t4 m (claim_fn m h) (claim_fn m q)} (λ b v k. loaded_model n h q k) started))))))

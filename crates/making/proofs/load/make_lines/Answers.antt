@@ -3,6 +3,7 @@ use Rattle.store.specs.Fun.{bit}
 use Rattle.store.specs.Meaning.{Lawful}
 use Rattle.circuit.specs.Netlists.{lines}
 use Rattle.circuit.specs.Reading.{netlist}
+use Rattle.description.specs.declared.part.Part.TheVariants.{Circuit}
 use Rattle.runs.specs.Functions.{copy, input}
 use Rattle.runs.specs.Valuations.{line_fn}
 use Rattle.making.specs.Models.{alone, width}
@@ -19,39 +20,39 @@ returns-in_err-place_at g c w h =
     let n = netlist c.args.circuit.now in
     let d = alone n in
     let regs = c.make_registers.ensures w h in
-    let lies1 = lies_upto 1 0 (λ i. at 1 0 (bit i ∷ [])) (λ i. (refl, refl, tt)) (2 * n.registers) in
+    let lies1 = lies_upto Circuit 0 (λ i. at Circuit 0 (bit i ∷ [])) (λ i. (refl, refl, tt)) (2 * n.registers) in
     let G = gates_list d (length n.gates) in
     broke c.from_residual.result c.in_err-place_at.field-0.0 c.from_residual.ensures.1
     (ends_as (variables_join d G)
-    (ends_before _ (placed_err 1 0 c.make_registers.result c.place_at.ensures lies1 regs c.in_err-place_at.was)))
+    (ends_before _ (placed_err Circuit 0 c.make_registers.result c.place_at.ensures lies1 regs c.in_err-place_at.was)))
 
 pub returns-in_err-place_at-2 : goal.returns-in_err-place_at-2
 returns-in_err-place_at-2 g c w h =
     let n = netlist c.args.circuit.now in
     let d = alone n in
     let regs = c.make_registers.ensures w h in
-    let lies1 = lies_upto 1 0 (λ i. at 1 0 (bit i ∷ [])) (λ i. (refl, refl, tt)) (2 * n.registers) in
+    let lies1 = lies_upto Circuit 0 (λ i. at Circuit 0 (bit i ∷ [])) (λ i. (refl, refl, tt)) (2 * n.registers) in
     let G = gates_list d (length n.gates) in
-    let r1 = placed_ok 1 0 c.make_registers.result c.place_at.ensures lies1 regs c.in_ok-place_at.was in
+    let r1 = placed_ok Circuit 0 c.make_registers.result c.place_at.ensures lies1 regs c.in_ok-place_at.was in
     let g1 = runs_grown r1.0 in
     let ins = c.make_inputs.ensures (subst (λ v. width d ≤ v) (sym g1.vars) w) r1.1.0 in
-    let lies2 = lies_upto 1 0 (λ j. at 1 0 (bit (input n.registers j) ∷ [])) (λ i. (refl, refl, tt)) n.inputs in
+    let lies2 = lies_upto Circuit 0 (λ j. at Circuit 0 (bit (input n.registers j) ∷ [])) (λ i. (refl, refl, tt)) n.inputs in
     broke c.from_residual-in_err-place_at-2.result c.in_err-place_at-2.field-0.0 c.from_residual-in_err-place_at-2.ensures.1
     (ends_as (variables_join d G)
-    (ends_after r1.0 (ends_before _ (placed_err 1 0 c.make_inputs.result c.place_at-2.ensures lies2 ins c.in_err-place_at-2.was))))
+    (ends_after r1.0 (ends_before _ (placed_err Circuit 0 c.make_inputs.result c.place_at-2.ensures lies2 ins c.in_err-place_at-2.was))))
 
 pub returns : goal.returns
 returns g c w h =
     let n = netlist c.args.circuit.now in
     let d = alone n in
     let regs = c.make_registers.ensures w h in
-    let lies1 = lies_upto 1 0 (λ i. at 1 0 (bit i ∷ [])) (λ i. (refl, refl, tt)) (2 * n.registers) in
+    let lies1 = lies_upto Circuit 0 (λ i. at Circuit 0 (bit i ∷ [])) (λ i. (refl, refl, tt)) (2 * n.registers) in
     let G = gates_list d (length n.gates) in
-    let r1 = placed_ok 1 0 c.make_registers.result c.place_at.ensures lies1 regs c.in_ok-place_at.was in
+    let r1 = placed_ok Circuit 0 c.make_registers.result c.place_at.ensures lies1 regs c.in_ok-place_at.was in
     let g1 = runs_grown r1.0 in
     let ins = c.make_inputs.ensures (subst (λ v. width d ≤ v) (sym g1.vars) w) r1.1.0 in
-    let lies2 = lies_upto 1 0 (λ j. at 1 0 (bit (input n.registers j) ∷ [])) (λ i. (refl, refl, tt)) n.inputs in
-    let r2 = placed_ok 1 0 c.make_inputs.result c.place_at-2.ensures lies2 ins c.in_ok-place_at-2.was in
+    let lies2 = lies_upto Circuit 0 (λ j. at Circuit 0 (bit (input n.registers j) ∷ [])) (λ i. (refl, refl, tt)) n.inputs in
+    let r2 = placed_ok Circuit 0 c.make_inputs.result c.place_at-2.ensures lies2 ins c.in_ok-place_at-2.was in
     let t3 = g.S.Store.shows c.make_gates.new.store in
     let g2 = runs_grown r2.0 in
     ends_as (variables_join d G)

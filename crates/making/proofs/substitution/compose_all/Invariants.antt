@@ -1,12 +1,13 @@
 use Rattle.std.proofs.Common.{◌≡◌, ℕ, ◌+◌, ◌*◌, ◌<◌}
 use Rattle.store.specs.Fun.{Fn}
+use Rattle.description.specs.declared.part.Part.{Part}
 use Rattle.runs.specs.Functions.{negated, composed_all}
 use Rattle.making.specs.Making.{Runs, Means, Numbered}
 use Rattle.making.specs.Pieces.{composed_all_list}
 use Rattle.making.proofs.substitution.compose_all.Given as goal
 
 abbrev pub invariant-loop-i : goal.invariant-loop-i
-invariant-loop-i g l = (p q : ℕ) (x : ℕ → ℕ) (f : Fn) (h : ℕ → Fn)
+invariant-loop-i g l = (p : Part) (q : ℕ) (x : ℕ → ℕ) (f : Fn) (h : ℕ → Fn)
     → ((i : ℕ) → i < l.n → l.first + 2 * i ≡ x i)
     → Means (g.S.Store.shows l.initial.store) l.a f
     → Numbered (g.S.Store.shows l.initial.store) l.by h l.n
