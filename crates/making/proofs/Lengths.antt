@@ -6,6 +6,8 @@ use Rattle.circuit.specs.Netlists.{gate}
 use Rattle.claim.specs.declared.code.Code.{Code}
 use Rattle.claim.specs.Grammar.{Tree, const, named, neg, conj, disj, post, code, operators}
 use Rattle.claim.specs.declared.code.Act.TheVariants.{Not, And, Or}
+use Rattle.description.specs.declared.part.Part.{Part}
+use Rattle.description.specs.declared.part.Part.TheVariants.{Circuit, Assumption, Property, Sets}
 use Rattle.runs.specs.Functions.{register, copy, negated, both, composed_all, quantified, copied, pre_image, first_of, back_of}
 use Rattle.runs.specs.Models.{Model, system}
 use Rattle.runs.specs.Search.{bad}
@@ -16,7 +18,7 @@ use Rattle.making.specs.Pieces.{composed_list, composed_all_list, halves_list, q
 use Rattle.making.specs.Loads.{start_list, load_list, back_list, advance_list}
 use Rattle.making.specs.Laws.{load_bound, advance_bound}
 
-at_length : (p l : ℕ) (fs : List Fn) → length (at p l fs) ≡ length fs
+at_length : (p : Part) (l : ℕ) (fs : List Fn) → length (at p l fs) ≡ length fs
 at_length p l [] = refl
 at_length p l (f ∷ fs) = omega (arith, at_length p l fs)
 
@@ -31,7 +33,7 @@ literal_length f x = by (eqb (x % 2) 1)
     by true = omega arith
     by false = omega arith
 
-gate_length : (p l : ℕ) (f : ℕ → Fn) (g : Gate) → length (at p l (gate_list f g)) ≤ 3
+gate_length : (p : Part) (l : ℕ) (f : ℕ → Fn) (g : Gate) → length (at p l (gate_list f g)) ≤ 3
 gate_length p l f g =
     let a = literal_list f g.left in
     let b = literal_list f g.right in
@@ -43,7 +45,7 @@ operators_append [] ys = omega arith
 operators_append (x ∷ xs) ys = omega (arith, operators_append xs ys)
 
 -- a call for each operator
-operators_length : (m : Model) (part : ℕ) (t : Tree) → length (operators_list m part t) ≡ operators (post t)
+operators_length : (m : Model) (part : Part) (t : Tree) → length (operators_list m part t) ≡ operators (post t)
 operators_length m part (const p b) = refl
 operators_length m part (named p s i) = refl
 operators_length m part (neg p t) =
@@ -71,16 +73,16 @@ operators_length m part (disj p t u) =
       length-append (operators_list m part u) l,
     )
 
-negations_length : (p l : ℕ) (f : ℕ → Fn) (n : ℕ) → length (negations_list p l f n) ≤ n
+negations_length : (p : Part) (l : ℕ) (f : ℕ → Fn) (n : ℕ) → length (negations_list p l f n) ≤ n
 negations_length p l f n = omega (arith, upto_length 1 (λ i. at p l (negated (f i) ∷ [])) (λ i. omega arith) n)
 
-quantified_length : (p l x : ℕ) (f : Fn) (m : ℕ) → length (quantified_list p l x f m) ≤ 3 * m
+quantified_length : (p : Part) (l x : ℕ) (f : Fn) (m : ℕ) → length (quantified_list p l x f m) ≤ 3 * m
 quantified_length p l x f m = omega (arith, upto_length 3 (λ j. at p l (halves_list (x + j) (quantified x f j))) (λ i. omega arith) m)
 
-composed_length : (p l : ℕ) (x : ℕ → ℕ) (g : ℕ → Fn) (f : Fn) (n : ℕ) → length (composed_all_list p l x g f n) ≤ 5 * n
+composed_length : (p : Part) (l : ℕ) (x : ℕ → ℕ) (g : ℕ → Fn) (f : Fn) (n : ℕ) → length (composed_all_list p l x g f n) ≤ 5 * n
 composed_length p l x g f n = omega (arith, upto_length 5 (λ i. at p l (composed_list (x i) (g i) (composed_all x g f i))) (λ i. omega arith) n)
 
-start_length : (p l n m : ℕ) (h q init : Fn) (next : ℕ → Fn) → length (start_list p l n m h q init next) ≤ 2 * n + 3 * m + 3
+start_length : (p : Part) (l n m : ℕ) (h q init : Fn) (next : ℕ → Fn) → length (start_list p l n m h q init next) ≤ 2 * n + 3 * m + 3
 start_length p l n m h q init next =
     let a : List Item = at p l (negated q ∷ both (negated q) h ∷ []) in
     let b = quantified_list p l (2 * n) (both (negated q) h) m in
@@ -106,23 +108,23 @@ load_length m =
     let q = claim_fn m m.property in
     let a = variables_list (width m) in
     let b = gates_list m (length m.circuit.gates) in
-    let c = operators_list m 2 m.assumption in
-    let d = operators_list m 3 m.property in
-    let e = start_list 4 0 n k h q (init_fn m) (next_fn m) in
+    let c = operators_list m Assumption m.assumption in
+    let d = operators_list m Property m.property in
+    let e = start_list Sets 0 n k h q (init_fn m) (next_fn m) in
     omega (
       arith,
       length-append a (b ++ (c ++ (d ++ e))),
       length-append b (c ++ (d ++ e)),
       length-append c (d ++ e),
       length-append d e,
-      upto_length 1 (λ i. at 1 0 (bit i ∷ [])) (λ i. omega arith) (width m),
-      upto_length 3 (λ g. at 1 g (gate_list (line_fn m) (gate m.circuit g))) (λ g. gate_length 1 g (line_fn m) (gate m.circuit g)) (length m.circuit.gates),
-      operators_length m 2 m.assumption,
-      operators_length m 3 m.property,
-      start_length 4 0 n k h q (init_fn m) (next_fn m),
+      upto_length 1 (λ i. at Circuit 0 (bit i ∷ [])) (λ i. omega arith) (width m),
+      upto_length 3 (λ g. at Circuit g (gate_list (line_fn m) (gate m.circuit g))) (λ g. gate_length Circuit g (line_fn m) (gate m.circuit g)) (length m.circuit.gates),
+      operators_length m Assumption m.assumption,
+      operators_length m Property m.property,
+      start_length Sets 0 n k h q (init_fn m) (next_fn m),
     )
 
-back_length : (p l n m : ℕ) (next : ℕ → Fn) (h f : Fn) → length (back_list p l n m next h f) ≤ 10 * n + 3 * m + 2
+back_length : (p : Part) (l n m : ℕ) (next : ℕ → Fn) (h f : Fn) → length (back_list p l n m next h f) ≤ 10 * n + 3 * m + 2
 back_length p l n m next h f =
     let g = both (pre_image n next f) h in
     let a = composed_all_list p l register (λ i. bit (copy i)) f n in
@@ -146,10 +148,10 @@ advance_length m j =
     let n = m.circuit.registers in
     let k = m.circuit.inputs in
     let h = claim_fn m m.assumption in
-    let a = back_list 4 j n k (next_fn m) h (set_fn m j) in
-    let b : List Item = cond (same n (bad (system m) (suc j)) (bad (system m) j)) [] (at 4 j (both (back_fn m j) (init_fn m) ∷ [])) in
-    omega (arith, length-append a b, back_length 4 j n k (next_fn m) h (set_fn m j), last (same n (bad (system m) (suc j)) (bad (system m) j)))
+    let a = back_list Sets j n k (next_fn m) h (set_fn m j) in
+    let b : List Item = cond (same n (bad (system m) (suc j)) (bad (system m) j)) [] (at Sets j (both (back_fn m j) (init_fn m) ∷ [])) in
+    omega (arith, length-append a b, back_length Sets j n k (next_fn m) h (set_fn m j), last (same n (bad (system m) (suc j)) (bad (system m) j)))
   where
-    last : (b : Bool) → length {A = Item} (cond b [] (at 4 j (both (back_fn m j) (init_fn m) ∷ []))) ≤ 1
+    last : (b : Bool) → length {A = Item} (cond b [] (at Sets j (both (back_fn m j) (init_fn m) ∷ []))) ≤ 1
     last true = omega arith
     last false = omega arith

@@ -4,31 +4,32 @@ use Rattle.store.specs.declared.refusal.Refusal.{Refusal}
 use Rattle.store.specs.Fun.{Fn}
 use Rattle.store.specs.Meaning.{Shown}
 use Rattle.circuit.specs.declared.gate.Gate.{Gate}
+use Rattle.description.specs.declared.part.Part.{Part}
 use Rattle.runs.specs.Functions.{negated, both}
 use Rattle.making.specs.Making.{at, ended, Means}
 use Rattle.runs.specs.Valuations.{literal_fn}
 use Rattle.making.specs.Pieces.{literal_list, gate_list}
 use Rattle.making.specs.Ends.{Ends, made, plain}
 
-pub literal_negated : {s t : Shown} (p l : ℕ) (f : ℕ → Fn) (x : ℕ) {r : Result ℕ Refusal} → x % 2 ≡ 1
+pub literal_negated : {s t : Shown} (p : Part) (l : ℕ) (f : ℕ → Fn) (x : ℕ) {r : Result ℕ Refusal} → x % 2 ≡ 1
     → Ends plain s t (at p l (negated (f (x / 2)) ∷ [])) (λ a. Means t a (negated (f (x / 2)))) r
     → Ends plain s t (at p l (literal_list f x)) (λ a. Means t a (literal_fn f x)) r
 literal_negated {s = s} {t = t} p l f x {r = r} e q =
     subst (λ b. Ends plain s t (at p l (cond b (negated (f (x / 2)) ∷ []) [])) (λ a. Means t a (cond b (negated (f (x / 2))) (f (x / 2)))) r)
     (sym (eq-eqb (x % 2) 1 e)) q
 
-pub literal_plain : {s : Shown} (p l : ℕ) (f : ℕ → Fn) (x : ℕ) {a : ℕ} → (x % 2 ≡ 1 → ⊥)
+pub literal_plain : {s : Shown} (p : Part) (l : ℕ) (f : ℕ → Fn) (x : ℕ) {a : ℕ} → (x % 2 ≡ 1 → ⊥)
     → Means s a (f (x / 2)) → Ends plain s s (at p l (literal_list f x)) (λ a. Means s a (literal_fn f x)) (Ok a)
 literal_plain {s = s} p l f x {a = a} e q =
     subst (λ b. Ends plain s s (at p l (cond b (negated (f (x / 2)) ∷ []) [])) (λ a. Means s a (cond b (negated (f (x / 2))) (f (x / 2)))) (Ok a))
     (sym (ne_eqb (x % 2) 1 e)) (made ended q)
 
-at_append : (p l : ℕ) (fs gs : List Fn) → at p l (fs ++ gs) ≡ at p l fs ++ at p l gs
+at_append : (p : Part) (l : ℕ) (fs gs : List Fn) → at p l (fs ++ gs) ≡ at p l fs ++ at p l gs
 at_append p l [] gs = refl
 at_append p l (f ∷ fs) gs = ap (λ k. record { part = p; place = l; fn = f } ∷ k) (at_append p l fs gs)
 
 -- the calls of a gate are those of its literals, and one more
-pub gate_parts : (p l : ℕ) (f : ℕ → Fn) (g : Gate)
+pub gate_parts : (p : Part) (l : ℕ) (f : ℕ → Fn) (g : Gate)
     → at p l (literal_list f g.left) ++ (at p l (literal_list f g.right) ++ at p l (both (literal_fn f g.left) (literal_fn f g.right) ∷ []))
     ≡ at p l (gate_list f g)
 gate_parts p l f g =

@@ -3,6 +3,7 @@ use Rattle.std.proofs.Common.{◌≡◌, ℕ, zero, suc, List, [], ◌∷◌, �
 use Rattle.store.specs.declared.refusal.Refusal.{Refusal}
 use Rattle.store.specs.Fun.{Fn}
 use Rattle.store.specs.Meaning.{Shown, free}
+use Rattle.description.specs.declared.part.Part.{Part}
 use Rattle.making.specs.declared.fault.Fault.{Fault}
 use Rattle.making.specs.declared.fault.Fault.TheVariants as fault
 use Rattle.making.specs.Making.{Item, at, upto, Runs, Stops, here, later}
@@ -10,34 +11,34 @@ use Rattle.making.specs.Ends.{Ends, made, stuck, plain, located, placed, placing
 use Rattle.making.proofs.Steps.{runs_of}
 
 -- each call of the list is of part p and place l
-abbrev pub Lies : ℕ → ℕ → List Item → Type 0
+abbrev pub Lies : Part → ℕ → List Item → Type 0
 Lies p l [] = Unit {0}
 Lies p l (x ∷ xs) = (x.part ≡ p) × (x.place ≡ l) × Lies p l xs
 
-pub lies_at : (p l : ℕ) (fs : List Fn) → Lies p l (at p l fs)
+pub lies_at : (p : Part) (l : ℕ) (fs : List Fn) → Lies p l (at p l fs)
 lies_at p l [] = tt
 lies_at p l (f ∷ fs) = (refl, refl, lies_at p l fs)
 
-pub lies_++ : (p l : ℕ) (xs ys : List Item) → Lies p l xs → Lies p l ys → Lies p l (xs ++ ys)
+pub lies_++ : (p : Part) (l : ℕ) (xs ys : List Item) → Lies p l xs → Lies p l ys → Lies p l (xs ++ ys)
 lies_++ p l [] ys a b = b
 lies_++ p l (x ∷ xs) ys a b = (a.0, a.1, lies_++ p l xs ys a.2 b)
 
-pub lies_upto : (p l : ℕ) (F : ℕ → List Item) → ((i : ℕ) → Lies p l (F i)) → (n : ℕ) → Lies p l (upto n F)
+pub lies_upto : (p : Part) (l : ℕ) (F : ℕ → List Item) → ((i : ℕ) → Lies p l (F i)) → (n : ℕ) → Lies p l (upto n F)
 lies_upto p l F h zero = tt
 lies_upto p l F h (suc n) = lies_++ p l (upto n F) (F n) (lies_upto p l F h n) (h n)
 
-stops_lies : {s t : Shown} {x : Item} (p l : ℕ) {xs : List Item} → Lies p l xs → Stops s xs x t → (x.part ≡ p) × (x.place ≡ l)
+stops_lies : {s t : Shown} {x : Item} (p : Part) (l : ℕ) {xs : List Item} → Lies p l xs → Stops s xs x t → (x.part ≡ p) × (x.place ≡ l)
 stops_lies p l h (here w q) = (h.0, h.1)
 stops_lies p l h (later a w m q) = stops_lies p l h.2 q
 
-pub gained : {X : Type 0} {P : X → Type 0} {s t : Shown} (p l : ℕ) {xs : List Item} {r : Result X Refusal} → Lies p l xs → Ends plain s t xs P r → Ends located s t xs P (placed p l r)
+pub gained : {X : Type 0} {P : X → Type 0} {s t : Shown} (p : Part) (l : ℕ) {xs : List Item} {r : Result X Refusal} → Lies p l xs → Ends plain s t xs P r → Ends located s t xs P (placed p l r)
 gained p l h (made q k) = made q k
 gained {t = t} p l h (stuck {e = e} y q k) =
     let w = stops_lies p l h q in
     stuck y q (ap (placing p l) k ∙ ap (λ z. fault.Room z l (free t)) (sym w.0) ∙ ap (λ z. fault.Room y.part z (free t)) (sym w.1))
 
 -- the two ways of a `?` on a placed answer
-module _ {X : Type 0} {P : X → Type 0} {s t : Shown} (p l : ℕ) {xs : List Item} (r : Result X Refusal) {z : Result X Fault} (is : z ≡ placed p l r) (lies : Lies p l xs) (ends : Ends plain s t xs P r) where
+module _ {X : Type 0} {P : X → Type 0} {s t : Shown} (p : Part) (l : ℕ) {xs : List Item} (r : Result X Refusal) {z : Result X Fault} (is : z ≡ placed p l r) (lies : Lies p l xs) (ends : Ends plain s t xs P r) where
   pub placed_err : {e : Fault} → z ≡ Err e → Ends located s t xs P (Err e)
   placed_err was = subst (Ends located s t xs P) (sym is ∙ was) (gained p l lies ends)
 
@@ -45,6 +46,6 @@ module _ {X : Type 0} {P : X → Type 0} {s t : Shown} (p l : ℕ) {xs : List It
   placed_ok was = runs_of (subst (Ends located s t xs P) (sym is ∙ was) (gained p l lies ends))
 
 -- what a call says of its answer, after the answer was placed
-pub placed_made : {X : Type 0} (P : X → Type 0) (p l : ℕ) (r : Result X Refusal) {z : Result X Fault} {x : X} → z ≡ placed p l r → z ≡ Ok x → IfOk r P → P x
+pub placed_made : {X : Type 0} (P : X → Type 0) (p : Part) (l : ℕ) (r : Result X Refusal) {z : Result X Fault} {x : X} → z ≡ placed p l r → z ≡ Ok x → IfOk r P → P x
 placed_made P p l (Ok y) {z} {x} is was h = let e : y ≡ x = cc in subst P e h
 placed_made P p l (Err e) {z} {x} is was h = let n : ◌≡◌ {A = ℕ} 0 1 = cc in absurd (omega arith)

@@ -4,6 +4,7 @@ use Rattle.store.specs.declared.refusal.Refusal.{Refusal}
 use Rattle.store.specs.declared.refusal.Refusal.TheVariants as refusal
 use Rattle.store.specs.Fun.{Fn}
 use Rattle.store.specs.Meaning.{Shown, free}
+use Rattle.description.specs.declared.part.Part.{Part}
 use Rattle.making.specs.declared.fault.Fault.{Fault}
 use Rattle.making.specs.declared.fault.Fault.TheVariants as fault
 use Rattle.making.specs.Making.{Item, Runs, Stops, Means}
@@ -25,11 +26,11 @@ abbrev pub Gives : {E : Type 0} → (Item → ℕ → E) → Shown → Shown →
 Gives room s t l f r = Ends room s t l (λ a. Means t a f) r
 
 -- a refusal gains its part and place
-abbrev pub placing : ℕ → ℕ → Refusal → Fault
+abbrev pub placing : Part → ℕ → Refusal → Fault
 placing p l refusal.Number = fault.Number
 placing p l refusal.Variable = fault.Variable
 placing p l (refusal.Room u) = fault.Room p l u
 
-abbrev pub placed : {X : Type 0} → ℕ → ℕ → Result X Refusal → Result X Fault
+abbrev pub placed : {X : Type 0} → Part → ℕ → Result X Refusal → Result X Fault
 placed p l (Ok x) = Ok x
 placed p l (Err e) = Err (placing p l e)

@@ -1,15 +1,14 @@
--- The number, the part and the place of each fault. Parts: 1 the circuit, 2 the assumption, 3 the property, 4 the sets, 5 the call.
+-- The number, the part and the place of each fault.
 use Rattle.std.specs.Prelude.{ℕ}
-use Rattle.circuit.specs.Reading as circuit
-use Rattle.claim.specs.Faults as claim
+use Rattle.description.specs.declared.part.Part.{Part}
+use Rattle.description.specs.declared.part.Part.TheVariants.{Call}
+use Rattle.description.specs.Faults as description
 use Rattle.making.specs.declared.fault.Fault.{Fault}
-use Rattle.making.specs.declared.fault.Fault.TheVariants.{Loaded, Circuit, Assumption, Property, Room, Empty, Settled, Verdict, Short, State, Number, Variable}
+use Rattle.making.specs.declared.fault.Fault.TheVariants.{Loaded, Description, Room, Empty, Settled, Verdict, Short, State, Number, Variable}
 
 abbrev pub number_of : Fault → ℕ
 number_of Loaded = 1
-number_of (Circuit e) = circuit.number_of e
-number_of (Assumption e) = claim.number_of e
-number_of (Property e) = claim.number_of e
+number_of (Description e) = description.number_of e
 number_of (Room p l u) = 10
 number_of Empty = 11
 number_of Settled = 12
@@ -19,25 +18,21 @@ number_of State = 15
 number_of Number = 16
 number_of Variable = 17
 
-abbrev pub part_of : Fault → ℕ
-part_of Loaded = 5
-part_of (Circuit e) = 1
-part_of (Assumption e) = 2
-part_of (Property e) = 3
+abbrev pub part_of : Fault → Part
+part_of Loaded = Call
+part_of (Description e) = description.part_of e
 part_of (Room p l u) = p
-part_of Empty = 5
-part_of Settled = 5
-part_of Verdict = 5
-part_of (Short n) = 5
-part_of State = 5
-part_of Number = 5
-part_of Variable = 5
+part_of Empty = Call
+part_of Settled = Call
+part_of Verdict = Call
+part_of (Short n) = Call
+part_of State = Call
+part_of Number = Call
+part_of Variable = Call
 
 abbrev pub place_of : Fault → ℕ
 place_of Loaded = 0
-place_of (Circuit e) = circuit.place_of e
-place_of (Assumption e) = claim.place_of e
-place_of (Property e) = claim.place_of e
+place_of (Description e) = description.place_of e
 place_of (Room p l u) = l
 place_of Empty = 0
 place_of Settled = 0

@@ -1,18 +1,21 @@
 // Why a call of a session is refused, with its number, its part and its place.
 ghost use Rattle.std.specs.Prelude.{◌≡◌};
+ghost use Rattle.making.specs.declared.fault.Fault.TheVariants.{Description as of_description};
+ghost use Rattle.making.specs.Ends.{placing};
 ghost use Rattle.making.specs.Faults.{number_of, part_of, place_of};
 
-use circuit::refusal::Refusal;
+use description::fault::Fault as Misdescription;
+use description::part::Part;
+use store::refusal::Refusal;
 
 #[derive(Clone, Copy, PartialEq, Eq, Debug)]
 pub enum Fault {
     // A circuit is loaded already.
     Loaded,
-    Circuit(Refusal),
-    Assumption(claim::fault::Fault),
-    Property(claim::fault::Fault),
+    // The circuit file or a claim is at fault.
+    Description(Misdescription),
     // The store refused a making call, with so many units free.
-    Room { part: u8, place: u16, free: u32 },
+    Room { part: Part, place: u16, free: u32 },
     // Nothing is loaded.
     Empty,
     // The verdict is no longer open.
@@ -29,15 +32,32 @@ pub enum Fault {
     Variable,
 }
 
+impl From<Misdescription> for Fault {
+    ghost from_gives = { λ e r. r ≡ of_description e };
+
+    fn from(misdescription: Misdescription) -> Fault {
+        Fault::Description(misdescription)
+    }
+}
+
 impl Fault {
+    // A refusal of the store, with the part and the place of its call.
+    pub(crate) fn at(refusal: Refusal, part: Part, place: u16) -> Fault
+        ensures { result ≡ placing part place refusal }
+    {
+        match refusal {
+            Refusal::Room(free) => Fault::Room { part, place, free },
+            Refusal::Number => Fault::Number,
+            Refusal::Variable => Fault::Variable,
+        }
+    }
+
     pub fn number(self) -> u8
         ensures { result ≡ number_of self }
     {
         match self {
             Fault::Loaded => 1,
-            Fault::Circuit(refusal) => refusal.number(),
-            Fault::Assumption(fault) => fault.number(),
-            Fault::Property(fault) => fault.number(),
+            Fault::Description(fault) => fault.number(),
             Fault::Room { .. } => 10,
             Fault::Empty => 11,
             Fault::Settled => 12,
@@ -49,16 +69,13 @@ impl Fault {
         }
     }
 
-    // 1 the circuit, 2 the assumption, 3 the property, 4 the sets, 5 the call.
-    pub fn part(self) -> u8
+    pub fn part(self) -> Part
         ensures { result ≡ part_of self }
     {
         match self {
-            Fault::Circuit(_) => 1,
-            Fault::Assumption(_) => 2,
-            Fault::Property(_) => 3,
+            Fault::Description(fault) => fault.part(),
             Fault::Room { part, .. } => part,
-            _ => 5,
+            _ => Part::Call,
         }
     }
 
@@ -66,9 +83,7 @@ impl Fault {
         ensures { result ≡ place_of self }
     {
         match self {
-            Fault::Circuit(refusal) => refusal.place(),
-            Fault::Assumption(fault) => fault.place(),
-            Fault::Property(fault) => fault.place(),
+            Fault::Description(fault) => fault.place(),
             Fault::Room { place, .. } => place as usize,
             Fault::Short { needed } => needed as usize,
             _ => 0,
