@@ -1,11 +1,10 @@
 -- What the look-up of a node over two numbers that differ does to the nodes.
-use Rattle.std.proofs.Common.{◌≡◌, ℕ, ◌+◌, ◌<◌, Bool, cond, List, [], ◌∷◌, ◌++◌, length, Some, sym, ap, ◌∙◌, subst, ⊎_elim, arith}
+use Rattle.std.proofs.Common.{◌≡◌, ℕ, ◌+◌, ◌<◌, ◌≤◌, Bool, cond, List, [], ◌∷◌, ◌++◌, length, Some, Ok, Err, Result, sym, ap, ◌∙◌, subst, ⊎_elim, arith}
 use Rattle.std.specs.List.{slice_get}
 use Rattle.std.proofs.lemmas.Option.{slice_get-get_or, slice_get_past as nth_past}
 use Rattle.std.proofs.lemmas.Bool.{cases_lt}
 use Rattle.records.specs.Placing.{Absent, Answers}
-use Rattle.records.specs.declared.placed.Placed.{Placed}
-use Rattle.records.specs.declared.placed.Placed.TheVariants.{Found, Added, Full}
+use Rattle.records.specs.declared.Full.{Full}
 use Rattle.store.specs.Fun.{Fn}
 use Rattle.nodes.specs.declared.Node.{Node}
 use Rattle.nodes.specs.Graph.{node, blank, value, top, Sound}
@@ -24,10 +23,15 @@ absent : (xs : List Node) (x : Node) → Absent xs (length xs) x → (k : ℕ) �
 absent xs x a k h e = a k h (slice_get-get_or xs k blank h ∙ ap Some e)
 
 -- the nodes that were there stay where they were
-pub placed_ext : (xs : List Node) (room : ℕ) (x : Node) (r : Placed) (ys : List Node) → Answers xs room x r ys → Ext xs ys
-placed_ext xs room x (Found i) ys p = subst (Ext xs) (sym p.2) (ext_refl xs)
-placed_ext xs room x (Added i) ys p = subst (Ext xs) (sym p.3) (push_ext xs x)
-placed_ext xs room x Full ys p = subst (Ext xs) (sym p.2) (ext_refl xs)
+pub placed_ext : (xs : List Node) (room : ℕ) (x : Node) (r : Result ℕ Full) (ys : List Node) → Answers xs room x r ys → Ext xs ys
+placed_ext xs room x (Ok i) ys p = ⊎_elim
+    (λ found. subst (Ext xs) (sym found.1) (ext_refl xs))
+    (λ added. subst (Ext xs) (sym added.2) (push_ext xs x))
+    p.1
+placed_ext xs room x (Err _) ys p = subst (Ext xs) (sym p.2) (ext_refl xs)
+
+pub placed_low : (xs : List Node) (room : ℕ) (x : Node) (i : ℕ) (ys : List Node) → length xs ≤ room → Answers xs room x (Ok i) ys → i < room
+placed_low xs room x i ys l p = ⊎_elim (λ found. omega (arith, (stands xs i x found.0).0)) (λ added. omega (arith, added.0, added.1)) p.1
 
 module _ (n : ℕ) (xs : List Node) (room : ℕ) (s : Sound n xs) (v l h : ℕ) (below : v < n) (held : (t : Bool) → cond t h l < length xs + 2)
     (under : (t : Bool) → v < top n xs (cond t h l)) (differ : l ≡ h → ⊥) where
@@ -37,27 +41,25 @@ module _ (n : ℕ) (xs : List Node) (room : ℕ) (s : Sound n xs) (v l h : ℕ) 
   abbrev made : Fn
   made = choose v (λ t. value xs (cond t h l))
 
-  pub placed_sound : (r : Placed) (ys : List Node) → Answers xs room new r ys → Sound n ys
-  placed_sound (Found i) ys p = subst (Sound n) (sym p.2) s
-  placed_sound (Added i) ys p = subst (Sound n) (sym p.3) (join_sound n xs s v l h below held under differ (absent xs new p.2))
-  placed_sound Full ys p = subst (Sound n) (sym p.2) s
+  pub placed_sound : (r : Result ℕ Full) (ys : List Node) → Answers xs room new r ys → Sound n ys
+  placed_sound (Ok i) ys p = ⊎_elim
+      (λ found. subst (Sound n) (sym found.1) s)
+      (λ added. subst (Sound n) (sym added.2)
+      (join_sound n xs s v l h below held under differ (absent xs new (λ k low. p.0 k (omega (arith, added.0))))))
+      p.1
+  placed_sound (Err _) ys p = subst (Sound n) (sym p.2) s
 
-  pub found_below : (i : ℕ) (ys : List Node) → Answers xs room new (Found i) ys → i < length xs
-  found_below i ys p = (stands xs i new p.0).0
+  pub placed_built : (i : ℕ) (ys : List Node) → Answers xs room new (Ok i) ys → Built n xs ys v made (i + 2)
+  placed_built i ys p = ⊎_elim
+      (λ found. let at = stands xs i new found.0 in
+      subst (λ (zs : List Node). Built n xs zs v made (i + 2)) (sym found.1) (join_found n xs s v l h below held under i at.0 at.1))
+      (λ added. subst (λ (zs : List Node). Built n xs zs v made (i + 2)) (sym added.2)
+      (subst (λ (k : ℕ). Built n xs (xs ++ new ∷ []) v made (k + 2)) (sym added.0)
+      (join_added n xs s v l h below held under differ (absent xs new (λ k low. p.0 k (omega (arith, added.0)))))))
+      p.1
 
-  pub found_built : (i : ℕ) (ys : List Node) → Answers xs room new (Found i) ys → Built n xs ys v made (i + 2)
-  found_built i ys p =
-      let at = stands xs i new p.0 in
-      subst (λ (zs : List Node). Built n xs zs v made (i + 2)) (sym p.2) (join_found n xs s v l h below held under i at.0 at.1)
-
-  pub added_built : (i : ℕ) (ys : List Node) → Answers xs room new (Added i) ys → Built n xs ys v made (i + 2)
-  added_built i ys p =
-      subst (λ (zs : List Node). Built n xs zs v made (i + 2)) (sym p.3)
-      (subst (λ (k : ℕ). Built n xs (xs ++ new ∷ []) v made (k + 2)) (sym p.0)
-      (join_added n xs s v l h below held under differ (absent xs new p.2)))
-
-  pub full_short : (ys : List Node) → Answers xs room new Full ys → Ext xs ys × Short n xs room v made
+  pub full_short : (ys : List Node) → Answers xs room new (Err record {}) ys → Ext xs ys × Short n xs room v made
   full_short ys p = (
-    placed_ext xs room new Full ys p,
+    placed_ext xs room new (Err record {}) ys p,
     subst (λ (c : ℕ). Short n xs c v made) p.0 (join_full n xs s v l h below held under differ (absent xs new p.1)),
   )

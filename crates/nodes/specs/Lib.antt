@@ -3,3 +3,4 @@ pub mod Price
 pub mod Growth
 pub mod Shows
 pub mod Facts
+pub mod Identity

@@ -3,11 +3,12 @@
 
 ghost use Rattle.std.specs.Prelude.{◌≡◌};
 ghost use Rattle.nodes.specs.Graph.{child};
+ghost use Rattle.nodes.specs.Identity.{node_exact};
 
 use records::entry::Entry;
 
 // Decides by its variable: the function numbered `low` where that is false, and the one numbered `high` where it is true.
-#[derive(Clone, Copy, PartialEq, Eq, Debug)]
+#[derive(Clone, Copy, PartialEq, Eq, Default, Debug)]
 pub struct Node {
     pub variable: u8,
     pub low: u16,
@@ -15,9 +16,7 @@ pub struct Node {
 }
 
 impl Entry for Node {
-    fn same(&self, other: &Node) -> bool {
-        self == other
-    }
+    ghost exact = { node_exact };
 }
 
 impl Node {

@@ -1,7 +1,6 @@
-// A kind of entry that can tell equality.
+// A kind of entry whose `==` tells identity.
 ghost use Rattle.std.specs.Prelude.{◌≡◌, Decides};
 
-pub trait Entry: Copy {
-    fn same(&self, other: &Self) -> bool
-        ensures { Decides result (self.now ≡ other.now) };
+pub trait Entry: Copy + PartialEq {
+    ghost exact: { (a b : Self) → Decides (Self.eq a b) (a ≡ b) };
 }

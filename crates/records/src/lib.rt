@@ -1,17 +1,19 @@
 // A list of entries in lent records: an entry is found, or added at the end, or there is no room.
 #![tactic(auto)]
 
-ghost use Rattle.std.specs.Prelude.{◌≡◌, [], length, take};
+ghost use Rattle.std.specs.Prelude.{◌≡◌, [], length, take, position};
 ghost use Rattle.std.specs.Option.{option_map};
 ghost use Rattle.std.specs.List.{slice_get};
 ghost use Rattle.records.specs.Contents.{entries, room};
 ghost use Rattle.records.specs.Placing.{Places};
 
 pub mod entry;
-pub mod placed;
 
 use entry::Entry;
-use placed::Placed;
+
+// No record is left.
+#[derive(Clone, Copy, PartialEq, Eq, Debug)]
+pub struct Full;
 
 // The first `used` of the records are in use.
 #[derive(Drop)]
@@ -43,15 +45,18 @@ impl<'a, T> List<'a, T> {
         self.capacity().min(self.used)
     }
 
+    // The entries.
+    fn as_slice(&self) -> &[T]
+        ensures { result.now ≡ entries self.now }
+    {
+        &self.records[..self.len()]
+    }
+
     // The entry at place i.
     pub fn get(&self, i: usize) -> Option<&T>
         ensures { option_map (λ x. x.now) result ≡ slice_get (entries self.now) i }
     {
-        if i < self.used {
-            self.records.get(i)
-        } else {
-            None
-        }
+        self.as_slice().get(i)
     }
 
     // Only the first `kept` entries stay.
@@ -64,21 +69,26 @@ impl<'a, T> List<'a, T> {
 }
 
 impl<T: Entry> List<'_, T> {
+    // The lowest place of an equal entry.
+    fn place(&self, item: T) -> Option<usize>
+        ensures { result ≡ position (λ entry. T.eq entry item) (entries self.now) }
+    {
+        self.as_slice().iter().position(|entry| *entry == item)
+    }
+
     // The lowest place of an equal entry; else the entry is added at the end, if a record is left.
-    pub fn find_or_add(&mut self, item: T) -> Placed
+    pub fn find_or_add(&mut self, item: T) -> Result<usize, Full>
         ensures { Places self.old item result self.new }
     {
-        let used = self.used.min(self.records.len());
-        for i in 0..used {
-            if self.records[i].same(&item) {
-                return Placed::Found(i);
-            }
+        if let Some(place) = self.place(item) {
+            return Ok(place);
         }
-        if used == self.records.len() {
-            return Placed::Full;
+        let end = self.len();
+        if end >= self.records.len() {
+            return Err(Full);
         }
-        self.records[used] = item;
-        self.used = used + 1;
-        Placed::Added(used)
+        self.records[end] = item;
+        self.used = end + 1;
+        Ok(end)
     }
 }

@@ -1,3 +1,5 @@
 pub mod Bit
 pub mod Same
 pub mod Making
+pub mod Word
+pub mod Replies

@@ -6,8 +6,11 @@ ghost use Rattle.store.specs.Meaning.{Shown};
 ghost use Rattle.store.specs.Calls.{MakesVariable, MakesNot, MakesAnd, MakesOr, MakesCofactor, TellsValue, TellsFigures};
 ghost use Rattle.store.specs.Numbers.{number_of};
 
+pub mod bits;
 pub mod figures;
+pub mod fitting;
 pub mod refusal;
+pub mod task;
 
 use figures::Figures;
 use refusal::Refusal;

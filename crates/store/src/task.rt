@@ -1,0 +1,57 @@
+// The functions that a making call asks for, and when a call is refused whatever the room.
+ghost use Rattle.std.specs.Prelude.{◌≡◌, ◌^◌, nat_lt};
+ghost use Rattle.store.specs.Tasks.{names, ranges, allowed};
+
+use super::refusal::Refusal;
+
+#[derive(Clone, Copy, PartialEq, Eq, Debug)]
+pub enum Op {
+    And,
+    Or,
+}
+
+// Each with the numbers of its operands.
+#[derive(Clone, Copy, PartialEq, Eq, Debug)]
+pub enum Task {
+    Variable(u8),
+    Not(u16),
+    Both(Op, u16, u16),
+    // A number with a variable fixed to a truth.
+    Cofactor(u16, u8, bool),
+}
+
+impl Task {
+    // What a store of so many variables that holds the numbers below `held` refuses: NUMBER is tested first, then VARIABLE.
+    pub fn check(self, held: usize, variables: u8) -> Result<(), Refusal>
+        ensures { result ≡ allowed (names (λ a. nat_lt a held) self) (ranges variables self) }
+    {
+        let holds = |a: u16| (a as usize) < held;
+        let (operands, within) = match self {
+            Task::Variable(i) => (true, i < variables),
+            Task::Not(a) => (holds(a), true),
+            Task::Both(_, a, b) => (holds(a) && holds(b), true),
+            Task::Cofactor(a, i, _) => (holds(a), i < variables),
+        };
+        refused(operands, within)
+    }
+}
+
+// The same for the question of number a at the valuation w.
+pub fn check_value(a: u16, w: u32, held: usize, variables: u8) -> Result<(), Refusal>
+    ensures { result ≡ allowed (nat_lt a held) (nat_lt w (2 ^ variables)) }
+{
+    refused((a as usize) < held, variables >= 32 || w < 1 << variables)
+}
+
+// By whether the numbers are held, and whether the variable or the valuation is in range.
+fn refused(held: bool, within: bool) -> Result<(), Refusal>
+    ensures { result ≡ allowed held within }
+{
+    if !held {
+        Err(Refusal::Number)
+    } else if !within {
+        Err(Refusal::Variable)
+    } else {
+        Ok(())
+    }
+}
