@@ -1,3 +1,4 @@
 mod Sessions
 mod Right
+mod Traces
 mod Single

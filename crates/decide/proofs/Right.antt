@@ -2,7 +2,7 @@
 use Rattle.std.proofs.Common.{◌≡◌, ℕ, ◌≤◌, List, IsErrAnd, Ok, Result, sym, ap, ◌∙◌, subst, ⊎_elim}
 use Rattle.std.proofs.lemmas.Result.{err_from_is_err_and}
 use Rattle.store.specs.Meaning.{Shown}
-use Rattle.circuit.specs.Files.{registers, says}
+use Rattle.circuit.specs.Files.{registers, sizes_at, says}
 use Rattle.circuit.specs.Netlists.{Netlist}
 use Rattle.circuit.specs.Rules.{reading}
 use Rattle.circuit.proofs.Passing.{reading_says, says_count, reading_sound}
@@ -15,7 +15,7 @@ use Rattle.decide.specs.declared.fault.Fault.TheVariants.{Call}
 use Rattle.decide.specs.declared.report.Report.{Report}
 use Rattle.decide.specs.declared.report.Report.TheVariants as report
 use Rattle.decide.specs.Reports.{Job, Searched, Reports, unfit, load_full, advance_full, found_safe, found_unsafe}
-use Rattle.decide.specs.Searches.{reported, Short, sizes_at, Conclusion, is_safe, is_unsafe}
+use Rattle.decide.specs.Searches.{reported, Short, Conclusion, is_safe, is_unsafe}
 use Rattle.decide.proofs.Sessions.{Unbegun}
 
 -- the sizes at the start of a file that passes are those of its circuit

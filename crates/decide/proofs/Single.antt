@@ -1,30 +1,32 @@
 -- A job has one right report, unless it is refused for room; and what a right report says of runs.
-use Rattle.std.proofs.Common.{◌≡◌, ℕ, suc, ◌<◌, ◌≤◌, ◌⊎◌, List, length, get_or, replicate, Ok, Err, Result, sym, ap, ◌∙◌, subst, inl, inr, ⊎_elim, eq-or-lt_of_le, arith}
+use Rattle.std.proofs.Common.{◌≡◌, ℕ, suc, ◌<◌, ◌≤◌, ◌⊎◌, List, length, Ok, Err, Result, sym, refl, ap, ◌∙◌, subst, inl, inr, ⊎_elim, eq-or-lt_of_le, arith}
 use mathlib.Core.Path.{to_path_p}
 use native.Mathlib.Bridge.{le_prop}
-use native.Mathlib.Nat.{ℕ_set}
 use Rattle.std.proofs.lemmas.Bool.{cases_lt}
+use Rattle.std.proofs.lemmas.List.{ext_get_or}
 use Rattle.store.specs.Meaning.{Shown}
 use Rattle.circuit.specs.declared.sizes.Sizes.{Sizes}
 use Rattle.making.specs.declared.fault.Fault.{Fault as Refusal}
-use Rattle.runs.specs.Models.{Model, system, sizes, Describes}
+use Rattle.runs.specs.Models.{Model, system, sizes}
 use Rattle.runs.specs.Search.{unsafe, safe, open_yet, verdict, Reached}
 use Rattle.runs.specs.Search as search
 use Rattle.runs.specs.Systems.{Breaking}
 use Rattle.runs.specs.Verdicts.{Safe, Unsafe}
 use Rattle.runs.proofs.Traces as runs
 use Rattle.runs.proofs.Verdicts.{verdicts}
-use Rattle.uses.specs.Calls.{written, Checked, right}
+use Rattle.uses.specs.Calls.{Checked, right}
 use Rattle.uses.proofs.Checks.{never, one_check}
 use Rattle.uses.proofs.Uses.{closed}
-use Rattle.uses.proofs.Written.{written_at, written_like, breaking_like}
 use Rattle.job.specs.Frames.{Parts, frame}
 use Rattle.job.specs.declared.fault.Fault.{Fault as Unframed}
+use Rattle.decide.specs.declared.fault.Fault.{Fault}
 use Rattle.decide.specs.declared.fault.Fault.TheVariants.{Frame, Call}
 use Rattle.decide.specs.declared.report.Report.{Report}
 use Rattle.decide.specs.declared.report.Report.TheVariants as report
 use Rattle.decide.specs.declared.trace.Trace.{Trace}
+use Rattle.decide.specs.Traces.{depth_of, none, state_at, input_at}
 use Rattle.decide.specs.Reports.{Job, Searched, begun, advanced, insides, Traced, Reports, unframed, unfit, load_full, advance_full, found_safe, found_unsafe, Full, full, Only, Accepted, Broken}
+use Rattle.decide.specs.Searches.{Conclusion, is_safe, is_unsafe}
 
 module _ {m : Model} {s : Shown} where
   pub reached : {j : ℕ} {t : Shown} → Searched m s j t → Reached (system m) j
@@ -39,52 +41,20 @@ module _ {m : Model} {s : Shown} {i j : ℕ} {t u : Shown} (f : Searched m s i t
   one_depth : i ≡ j
   one_depth = ⊎_elim (λ l. absurd (n (reached g i l))) (λ h. ⊎_elim (λ l. absurd (k (reached f j l))) (λ h'. omega arith) (cases_lt j i)) (cases_lt i j)
 
--- a trace by its depth, states and inputs
-same_trace : (x y : Trace) → x.depth ≡ y.depth → x.states ≡ y.states → x.inputs ≡ y.inputs → x ≡ y
-same_trace x y d q v = λ i. record {
-  depth = d i;
-  states = q i;
-  inputs = v i;
-  short = to_path_p (λ i. d i ≤ 256) {a = x.short} {b = y.short} (le_prop _ _) i;
-  long = to_path_p (λ i. length (q i) ≡ 257) {a = x.long} {b = y.long} (ℕ_set _ _ _ _) i;
-  wide = to_path_p (λ i. length (v i) ≡ 257) {a = x.wide} {b = y.wide} (ℕ_set _ _ _ _) i;
-}
+-- a trace by its depth and its steps
+same_trace : (x y : Trace) → depth_of x ≡ depth_of y → ((t : ℕ) → t ≤ depth_of x → (state_at x t ≡ state_at y t) × (input_at x t ≡ input_at y t)) → x ≡ y
+same_trace x y d h =
+    let e : x.steps.items ≡ y.steps.items =
+    ext_get_or none _ _ (omega arith) (λ t l i. record { state = (h t (omega arith)).0 i; input = (h t (omega arith)).1 i }) in
+    λ i. record { steps = record { items = e i }; begun = to_path_p (λ i. 0 < length (e i)) {a = x.begun} {b = y.begun} (le_prop _ _) i }
 
 -- the trace of a depth
 module _ {m : Model} {s : Shown} where
-  one_trace : {t : Shown} (x y : Trace) → Searched m s x.depth t → verdict (system m) x.depth ≡ unsafe x.depth → x.depth ≡ y.depth → Traced m x → Traced m y → x ≡ y
-  one_trace x y f o d h h' =
-      let k = subst (λ i. search.Trace (system m) i h'.states h'.inputs) (sym d) h'.trace in
-      let e = (runs.traces (system m) (closed m) x.depth (reached f) o).one h.states h.inputs h'.states h'.inputs h.trace k in
-      same_trace x y d
-      (h.states_are ∙ written_like (suc x.depth) h.states h'.states (replicate 257 0) (λ t l. (e t (omega arith)).0)
-      ∙ ap (λ i. written (suc i) h'.states (replicate 257 0)) d ∙ sym h'.states_are)
-      (h.inputs_are ∙ written_like (suc x.depth) h.inputs h'.inputs (replicate 257 0) (λ t l. (e t (omega arith)).1)
-      ∙ ap (λ i. written (suc i) h'.inputs (replicate 257 0)) d ∙ sym h'.inputs_are)
-
-module _ (bs : List ℕ) where
-  one_parts : {p p' : Parts} → frame bs ≡ Ok p → frame bs ≡ Ok p' → p ≡ p'
-  one_parts e e' = cc
-
-  -- two jobs of the same bytes
-  one_job : {width : ℕ} {m m' : Model} → Job width bs m → Job width bs m' → m ≡ m'
-  one_job {width = width} {m = m} {m' = m'} a b =
-      let p = one_parts a.framed b.framed in
-      let d : Describes width a.parts.circuit a.parts.assumption a.parts.property m' =
-      subst (λ (p : Parts). Describes width p.circuit p.assumption p.property m') (sym p) b.describes in
-      one_ok (one_check (right a.describes) (right d))
-    where
-      one_ok : {a b : Model} → ◌≡◌ {A = Result Model Refusal} (Ok a) (Ok b) → a ≡ b
-      one_ok e = cc
-
-  -- a job whose load is refused is no job
-  not_job : {width : ℕ} {p : Parts} {e : Refusal} {m : Model} → frame bs ≡ Ok p → Checked width p.circuit p.assumption p.property (Err e) → Job width bs m → ⊥
-  not_job {width = width} {e = e} f k j =
-      let p = one_parts f j.framed in
-      refused (one_check (subst (λ (p : Parts). Checked width p.circuit p.assumption p.property (Err e)) p k) (right j.describes))
-    where
-      refused : {e : Refusal} {a : Model} → ◌≡◌ {A = Result Model Refusal} (Err e) (Ok a) → ⊥
-      refused e = never (cc)
+  one_trace : {d : ℕ} {t : Shown} (x y : Trace) → Searched m s d t → verdict (system m) d ≡ unsafe d → depth_of x ≡ d → depth_of y ≡ d → Traced m x → Traced m y → x ≡ y
+  one_trace {d = d} x y f o e e' h h' =
+      let a = subst (λ i. search.Trace (system m) i (state_at x) (input_at x)) e h in
+      let b = subst (λ i. search.Trace (system m) i (state_at y) (input_at y)) e' h' in
+      same_trace x y (e ∙ sym e') (λ t l. (runs.traces (system m) (closed m) d (reached f) o).one (state_at x) (input_at x) (state_at y) (input_at y) a b t (omega arith))
 
 not_open_safe : {v : search.Verdict} → v ≡ safe → v ≡ open_yet → ⊥
 not_open_safe o h = never (cc)
@@ -95,109 +65,88 @@ not_open_unsafe o h = never (cc)
 not_both : {v : search.Verdict} {d : ℕ} → v ≡ safe → v ≡ unsafe d → ⊥
 not_both o h = never (cc)
 
+-- what a settled search comes to is one report
+module _ {m : Model} {s : Shown} where
+  one_conclusion : {i j : ℕ} {t u : Shown} {r r' : Report} → Searched m s i t → Searched m s j u → Conclusion m i r → Conclusion m j r' → r' ≡ r
+  one_conclusion f g (is_safe o) (is_safe o') = sym (ap (λ k. report.Safe (sizes m.circuit) k (insides m k)) (one_depth f g (not_open_safe o) (not_open_safe o')))
+  one_conclusion f g (is_safe o) (is_unsafe e o' h) = absurd (not_both (subst (λ k. verdict (system m) k ≡ safe) (one_depth f g (not_open_safe o) (not_open_unsafe o')) o) o')
+  one_conclusion f g (is_unsafe e o h) (is_safe o') = absurd (not_both (subst (λ k. verdict (system m) k ≡ safe) (one_depth g f (not_open_safe o') (not_open_unsafe o)) o') o)
+  one_conclusion f g (is_unsafe {x = x} e o h) (is_unsafe {x = y} e' o' h') =
+      ap (report.Unsafe (sizes m.circuit)) (one_trace y x g o' e' (e ∙ one_depth f g (not_open_unsafe o) (not_open_unsafe o')) h' h)
+
 module _ (s : Shown) (bs : List ℕ) where
-  abbrev One : Report → Report → Type 0
-  One r r' = (r' ≡ r) ⊎ (Full r ⊎ Full r')
+  -- what the checks of a job lead to, unless there is no room
+  abbrev Follows : Result Model Refusal → Report → Type 0
+  Follows (Ok m) r = (j : ℕ) × (t : Shown) × Searched m s j t × Conclusion m j r
+  Follows (Err e) r = r ≡ report.Refused (Call e)
 
-  module _ {m : Model} {i : ℕ} {t : Shown} (f : Searched m s i t) where
-    safe_safe : {m' : Model} {j : ℕ} {u : Shown} → m ≡ m' → verdict (system m) i ≡ safe → Searched m' s j u → verdict (system m') j ≡ safe
-        → report.Safe (sizes m'.circuit) j (insides m' j) ≡ report.Safe (sizes m.circuit) i (insides m i)
-    safe_safe {j = j} {u = u} e o =
-        subst (λ n. Searched n s j u → verdict (system n) j ≡ safe → report.Safe (sizes n.circuit) j (insides n j) ≡ report.Safe (sizes m.circuit) i (insides m i)) e
-        (λ g o'. sym (ap (λ k. report.Safe (sizes m.circuit) k (insides m k)) (one_depth f g (not_open_safe o) (not_open_safe o'))))
+  data Way (r : Report) : Type 0 where
+    no_room : Full r → Way r
+    no_frame : {e : Unframed} → frame bs ≡ Err e → r ≡ report.Refused (Frame e) → Way r
+    framed : {p : Parts} {x : Result Model Refusal} → frame bs ≡ Ok p → Checked s.vars p.circuit p.assumption p.property x → Follows x r → Way r
 
-    safe_unsafe : {m' : Model} {j : ℕ} {u : Shown} → m ≡ m' → verdict (system m) i ≡ safe → Searched m' s j u → verdict (system m') j ≡ unsafe j → ⊥
-    safe_unsafe {j = j} {u = u} e o =
-        subst (λ n. Searched n s j u → verdict (system n) j ≡ unsafe j → ⊥) e
-        (λ g o'. not_both (subst (λ k. verdict (system m) k ≡ safe) (one_depth f g (not_open_safe o) (not_open_unsafe o')) o) o')
+  way : {r : Report} → Reports s bs r → Way r
+  way (unframed e) = no_frame e refl
+  way (unfit f k) = framed f k refl
+  way (load_full j q) = no_room full
+  way (advance_full j f o q) = no_room full
+  way (found_safe {j = j} {t = t} w f o) = framed w.framed (right w.describes) (j, t, f, is_safe o)
+  way (found_unsafe {t = t} {x = x} w f o h) = framed w.framed (right w.describes) (depth_of x, t, f, is_unsafe refl o h)
 
-  unsafe_unsafe : {m m' : Model} {x y : Trace} {t u : Shown} → m ≡ m' → Searched m s x.depth t → verdict (system m) x.depth ≡ unsafe x.depth → Traced m x
-      → Searched m' s y.depth u → verdict (system m') y.depth ≡ unsafe y.depth → Traced m' y → report.Unsafe (sizes m'.circuit) y ≡ report.Unsafe (sizes m.circuit) x
-  unsafe_unsafe {m = m} {x = x} {y = y} {u = u} e f o h =
-      subst (λ n. Searched n s y.depth u → verdict (system n) y.depth ≡ unsafe y.depth → Traced n y → report.Unsafe (sizes n.circuit) y ≡ report.Unsafe (sizes m.circuit) x) e
-      (λ g o' h'. sym (ap (report.Unsafe (sizes m.circuit)) (one_trace x y f o (one_depth f g (not_open_unsafe o) (not_open_unsafe o')) h h')))
+  one_follows : (x : Result Model Refusal) {r r' : Report} → Follows x r → Follows x r' → r' ≡ r
+  one_follows (Ok m) (j, t, f, h) (k, u, g, h') = one_conclusion f g h h'
+  one_follows (Err e) a b = b ∙ sym a
 
   one_fault : {a b : Unframed} → frame bs ≡ Err a → frame bs ≡ Err b → b ≡ a
   one_fault e e' = cc
 
-  one_refusal : {p p' : Parts} {a b : Refusal} → frame bs ≡ Ok p → Checked s.vars p.circuit p.assumption p.property (Err a)
-      → frame bs ≡ Ok p' → Checked s.vars p'.circuit p'.assumption p'.property (Err b) → b ≡ a
-  one_refusal {a = a} {b = b} f k f' k' =
-      let p = one_parts bs f f' in
-      one_err (one_check (subst (λ (p : Parts). Checked s.vars p.circuit p.assumption p.property (Err a)) p k) k')
-    where
-      one_err : {a b : Refusal} → ◌≡◌ {A = Result Model Refusal} (Err a) (Err b) → b ≡ a
-      one_err e = cc
+  one_parts : {p p' : Parts} → frame bs ≡ Ok p → frame bs ≡ Ok p' → p ≡ p'
+  one_parts e e' = cc
 
-  no_frame : {X : Type 0} {e : Unframed} {p : Parts} → frame bs ≡ Err e → frame bs ≡ Ok p → X
-  no_frame e f = never (cc)
-
-  one : {r r' : Report} → Reports s bs r → Reports s bs r' → One r r'
-  one (unframed e) (unframed e') = inl (ap (λ i. report.Refused (Frame i)) (one_fault e e'))
-  one (unframed e) (unfit f k) = no_frame e f
-  one (unframed e) (load_full j q) = inr (inr full)
-  one (unframed e) (advance_full j f o q) = inr (inr full)
-  one (unframed e) (found_safe j f o) = no_frame e j.framed
-  one (unframed e) (found_unsafe j f o h) = no_frame e j.framed
-  one (unfit f k) (unframed e) = no_frame e f
-  one (unfit f k) (unfit f' k') = inl (ap (λ i. report.Refused (Call i)) (one_refusal f k f' k'))
-  one (unfit f k) (load_full j q) = inr (inr full)
-  one (unfit f k) (advance_full j g o q) = inr (inr full)
-  one (unfit f k) (found_safe j g o) = absurd (not_job bs f k j)
-  one (unfit f k) (found_unsafe j g o h) = absurd (not_job bs f k j)
-  one (load_full j q) x = inr (inl full)
-  one (advance_full j f o q) x = inr (inl full)
-  one (found_safe j f o) (unframed e) = no_frame e j.framed
-  one (found_safe j f o) (unfit g k) = absurd (not_job bs g k j)
-  one (found_safe j f o) (load_full j' q) = inr (inr full)
-  one (found_safe j f o) (advance_full j' g o' q) = inr (inr full)
-  one (found_safe j f o) (found_safe j' g o') = inl (safe_safe f (one_job bs j j') o g o')
-  one (found_safe j f o) (found_unsafe j' g o' h) = absurd (safe_unsafe f (one_job bs j j') o g o')
-  one (found_unsafe j f o h) (unframed e) = no_frame e j.framed
-  one (found_unsafe j f o h) (unfit g k) = absurd (not_job bs g k j)
-  one (found_unsafe j f o h) (load_full j' q) = inr (inr full)
-  one (found_unsafe j f o h) (advance_full j' g o' q) = inr (inr full)
-  one (found_unsafe j f o h) (found_safe j' g o') = absurd (safe_unsafe g (one_job bs j' j) o' f o)
-  one (found_unsafe {x = x} j f o h) (found_unsafe {x = y} j' g o' h') = inl (unsafe_unsafe {x = x} {y = y} (one_job bs j j') f o h g o' h')
+  one : {r r' : Report} → Way r → Way r' → (r' ≡ r) ⊎ (Full r ⊎ Full r')
+  one (no_room h) b = inr (inl h)
+  one (no_frame e h) (no_room k) = inr (inr k)
+  one (no_frame e h) (no_frame e' h') = inl (h' ∙ ap (λ i. report.Refused (Frame i)) (one_fault e e') ∙ sym h)
+  one (no_frame e h) (framed f k l) = never (cc)
+  one (framed f k l) (no_room h) = inr (inr h)
+  one (framed f k l) (no_frame e h) = never (cc)
+  one {r = r} (framed {x = x} f k l) (framed {x = y} f' k' l') =
+      let p = one_parts f f' in
+      let e : x ≡ y = one_check (subst (λ (p : Parts). Checked s.vars p.circuit p.assumption p.property x) p k) k' in
+      inl (one_follows y (subst (λ x. Follows x r) e l) l')
 
   pub only : (r : Report) → Reports s bs r → Only s bs r
-  only r a r' b = one a b
+  only r a r' b = one (way a) (way b)
 
-  -- what is accepted is safe
-  passes : {r : Report} → Reports s bs r → Accepted s bs r
-  passes (unframed e) z i c is = never (cc)
-  passes (unfit f k) z i c is = never (cc)
-  passes (load_full j q) z i c is = never (cc)
-  passes (advance_full j f o q) z i c is = never (cc)
-  passes (found_safe {m = m} {j = j} w f o) z i c is =
-      let h : j ≡ i = same_depth is in
-      (m, w, subst (Safe (system m)) h ((verdicts (system m) (closed m) j (reached f)).safely o))
-    where
-      same_depth : {z z' : Sizes} {i j c d : ℕ} → ◌≡◌ {A = Report} (report.Safe z i c) (report.Safe z' j d) → i ≡ j
-      same_depth e = cc
-  passes (found_unsafe j f o h) z i c is = never (cc)
+  refused : {e : Fault} → Accepted s bs (report.Refused e) × Broken s bs (report.Refused e)
+  refused = (λ z i c is. never (cc), λ z x is. never (cc))
 
-  -- what is called unsafe is broken by the run that is shown
-  breaks : {r : Report} → Reports s bs r → Broken s bs r
-  breaks (unframed e) z x is = never (cc)
-  breaks (unfit f k) z x is = never (cc)
-  breaks (load_full j q) z x is = never (cc)
-  breaks (advance_full j f o q) z x is = never (cc)
-  breaks (found_safe j f o) z x is = never (cc)
-  breaks (found_unsafe {m = m} {x = y} w f o h) z x is =
-      let e : y ≡ x = same_run is in
-      subst (λ (x : Trace). (n : Model) × Job s.vars bs n × Unsafe (system n) x.depth × Breaking (system n) x.depth (λ t. get_or x.states t 0) (λ t. get_or x.inputs t 0)) e (
-        m,
-        w,
-        ((verdicts (system m) (closed m) y.depth (reached f)).unsafely y.depth o).1,
-        breaking_like (system m) y.depth h.states h.inputs _ _
-            (λ t l. ap (λ l. get_or l t 0) h.states_are ∙ written_at (suc y.depth) h.states (replicate 257 0) t l)
-            (λ t l. ap (λ l. get_or l t 0) h.inputs_are ∙ written_at (suc y.depth) h.inputs (replicate 257 0) t l)
-            ((runs.traces (system m) (closed m) y.depth (reached f) o).breaking h.states h.inputs h.trace),
-      )
-    where
-      same_run : {z z' : Sizes} {x y : Trace} → ◌≡◌ {A = Report} (report.Unsafe z x) (report.Unsafe z' y) → x ≡ y
-      same_run e = cc
+  same_depth : {z z' : Sizes} {i j c d : ℕ} → ◌≡◌ {A = Report} (report.Safe z i c) (report.Safe z' j d) → i ≡ j
+  same_depth e = cc
 
-  pub said : (r : Report) → Reports s bs r → Accepted s bs r × Broken s bs r
-  said r a = (passes a, breaks a)
+  same_run : {z z' : Sizes} {x y : Trace} → ◌≡◌ {A = Report} (report.Unsafe z x) (report.Unsafe z' y) → x ≡ y
+  same_run e = cc
+
+  -- what is accepted is safe, and what is called unsafe is broken by the run that is shown
+  pub said : {r : Report} → Reports s bs r → Accepted s bs r × Broken s bs r
+  said (unframed e) = refused
+  said (unfit f k) = refused
+  said (load_full j q) = refused
+  said (advance_full j f o q) = refused
+  said (found_safe {m = m} {j = j} w f o) = (
+    λ z i c is.
+        let h : j ≡ i = same_depth is in
+        (m, w, subst (Safe (system m)) h ((verdicts (system m) (closed m) j (reached f)).safely o)),
+    λ z x is. never (cc),
+  )
+  said (found_unsafe {m = m} {x = y} w f o h) = (
+    λ z i c is. never (cc),
+    λ z x is.
+        let e : y ≡ x = same_run is in
+        subst (λ (x : Trace). (n : Model) × Job s.vars bs n × Unsafe (system n) (depth_of x) × Breaking (system n) (depth_of x) (state_at x) (input_at x)) e (
+          m,
+          w,
+          ((verdicts (system m) (closed m) (depth_of y) (reached f)).unsafely (depth_of y) o).1,
+          (runs.traces (system m) (closed m) (depth_of y) (reached f) o).breaking (state_at y) (input_at y) h,
+        ),
+  )

@@ -1,18 +1,10 @@
--- A fault's number, part and place: those of the frame's fault, or of the call's.
-use Rattle.std.specs.Prelude.{ℕ}
+-- What is told of a fault: of the frame's fault, or of the call's.
 use Rattle.job.specs.Faults as frame
+use Rattle.job.specs.declared.notice.Notice.{Notice}
 use Rattle.making.specs.Faults as call
 use Rattle.decide.specs.declared.fault.Fault.{Fault}
 use Rattle.decide.specs.declared.fault.Fault.TheVariants.{Frame, Call}
 
-abbrev pub number_of : Fault → ℕ
-number_of (Frame e) = frame.number_of e
-number_of (Call e) = call.number_of e
-
-abbrev pub part_of : Fault → ℕ
-part_of (Frame e) = frame.part_of e
-part_of (Call e) = call.part_of e
-
-abbrev pub place_of : Fault → ℕ
-place_of (Frame e) = frame.place_of e
-place_of (Call e) = call.place_of e
+abbrev pub notice_of : Fault → Notice
+notice_of (Frame e) = frame.notice_of e
+notice_of (Call e) = record { number = call.number_of e; part = call.part_of e; place = call.place_of e }

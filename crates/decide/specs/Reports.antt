@@ -1,5 +1,5 @@
 -- What is said of the bytes of a job, by a store that shows s at the start.
-use Rattle.std.specs.Prelude.{◌≡◌, ℕ, zero, suc, ◌+◌, ◌^◌, Bool, cond, ◌⊎◌, List, replicate, Ok, Err, slice_index}
+use Rattle.std.specs.Prelude.{◌≡◌, ℕ, zero, suc, ◌+◌, ◌^◌, Bool, cond, ◌⊎◌, List, Ok, Err}
 use Rattle.store.specs.Meaning.{Shown}
 use Rattle.circuit.specs.declared.sizes.Sizes.{Sizes}
 use Rattle.making.specs.declared.fault.Fault.{Fault as Refusal}
@@ -11,7 +11,7 @@ use Rattle.runs.specs.Search.{unsafe, safe, open_yet, verdict, inside}
 use Rattle.runs.specs.Search as search
 use Rattle.runs.specs.Systems.{Breaking}
 use Rattle.runs.specs.Verdicts.{Safe, Unsafe}
-use Rattle.uses.specs.Calls.{written, Checked}
+use Rattle.uses.specs.Calls.{Checked}
 use Rattle.uses.specs.Uses.{room}
 use Rattle.job.specs.Frames.{Parts, frame}
 use Rattle.job.specs.declared.fault.Fault.{Fault as Unframed}
@@ -19,6 +19,7 @@ use Rattle.decide.specs.declared.fault.Fault.TheVariants.{Frame, Call}
 use Rattle.decide.specs.declared.report.Report.{Report}
 use Rattle.decide.specs.declared.report.Report.TheVariants as report
 use Rattle.decide.specs.declared.trace.Trace.{Trace}
+use Rattle.decide.specs.Traces.{depth_of, state_at, input_at}
 
 -- the bytes are a circuit and two claims, for a store of `width` variables
 pub record Job (width : ℕ) (bs : List ℕ) (m : Model) : Type 0 where
@@ -40,13 +41,9 @@ tally (suc n) p = tally n p + cond (p n) 1 0
 abbrev pub insides : Model → ℕ → ℕ
 insides m j = tally (2 ^ m.circuit.registers) (inside (system m) j)
 
--- the trace of the rules, with 0 past its end
-pub record Traced (m : Model) (t : Trace) : Type 0 where
-  pub states : ℕ → ℕ
-  pub inputs : ℕ → ℕ
-  pub trace : search.Trace (system m) t.depth states inputs
-  pub states_are : t.states ≡ written (suc t.depth) states (replicate 257 0)
-  pub inputs_are : t.inputs ≡ written (suc t.depth) inputs (replicate 257 0)
+-- the trace of the rules
+abbrev pub Traced : Model → Trace → Type 0
+Traced m t = search.Trace (system m) (depth_of t) (state_at t) (input_at t)
 
 -- the right report
 pub data Reports (s : Shown) (bs : List ℕ) : Report → Type 0 where
@@ -59,7 +56,7 @@ pub data Reports (s : Shown) (bs : List ℕ) : Report → Type 0 where
       → Reports s bs (report.Refused (Call (room y u)))
   -- the search settled
   found_safe : {m : Model} {j : ℕ} {t : Shown} → Job s.vars bs m → Searched m s j t → verdict (system m) j ≡ safe → Reports s bs (report.Safe (sizes m.circuit) j (insides m j))
-  found_unsafe : {m : Model} {t : Shown} {x : Trace} → Job s.vars bs m → Searched m s x.depth t → verdict (system m) x.depth ≡ unsafe x.depth → Traced m x
+  found_unsafe : {m : Model} {t : Shown} {x : Trace} → Job s.vars bs m → Searched m s (depth_of x) t → verdict (system m) (depth_of x) ≡ unsafe (depth_of x) → Traced m x
       → Reports s bs (report.Unsafe (sizes m.circuit) x)
 
 -- the job was refused for room
@@ -77,4 +74,4 @@ Accepted s bs r = (z : Sizes) (j c : ℕ) → r ≡ report.Safe z j c → (m : M
 -- it is called unsafe only with a permitted run that breaks the property, and none breaks it after fewer steps
 abbrev pub Broken : Shown → List ℕ → Report → Type 0
 Broken s bs r = (z : Sizes) (x : Trace) → r ≡ report.Unsafe z x
-    → (m : Model) × Job s.vars bs m × Unsafe (system m) x.depth × Breaking (system m) x.depth (λ t. slice_index x.states t) (λ t. slice_index x.inputs t)
+    → (m : Model) × Job s.vars bs m × Unsafe (system m) (depth_of x) × Breaking (system m) (depth_of x) (state_at x) (input_at x)

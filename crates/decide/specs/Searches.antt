@@ -1,8 +1,7 @@
 -- What the parts of the search promise one another: w is the session before, and v after.
 use Rattle.std.specs.Prelude.{◌≡◌, ℕ, List, Ok, Err, Result, MatchResult}
 use Rattle.store.specs.Meaning.{Shown}
-use Rattle.circuit.specs.Files.{registers, inputs, count}
-use Rattle.circuit.specs.declared.sizes.Sizes.{Sizes}
+use Rattle.circuit.specs.Files.{sizes_at}
 use Rattle.making.specs.declared.fault.Fault.{Fault as Refusal}
 use Rattle.making.specs.Making.{Item, Stops}
 use Rattle.making.specs.Loads.{advance_list}
@@ -17,6 +16,7 @@ use Rattle.decide.specs.declared.fault.Fault.{Fault}
 use Rattle.decide.specs.declared.report.Report.{Report}
 use Rattle.decide.specs.declared.report.Report.TheVariants as report
 use Rattle.decide.specs.declared.trace.Trace.{Trace}
+use Rattle.decide.specs.Traces.{depth_of}
 use Rattle.decide.specs.Reports.{Searched, insides, Traced}
 
 -- a fault is reported as a refusal
@@ -62,15 +62,12 @@ abbrev pub CountsInside : World → ℕ → Result ℕ Refusal → Type 0
 CountsInside w n r = (s : Shown) (m : Model) (j : ℕ) → Come s m j w → verdict (system m) j ≡ safe → n ≡ m.circuit.registers → r ≡ Ok (insides m j)
 
 abbrev pub HandsOut : World → ℕ → Result Trace Refusal → Type 0
-HandsOut w d r = (s : Shown) (m : Model) → Come s m d w → verdict (system m) d ≡ unsafe d → MatchResult r (λ x. (x.depth ≡ d) × Traced m x) (λ _. ⊥)
-
-abbrev pub sizes_at : List ℕ → Sizes
-sizes_at file = record { registers = registers file; inputs = inputs file; gates = count file }
+HandsOut w d r = (s : Shown) (m : Model) → Come s m d w → verdict (system m) d ≡ unsafe d → MatchResult r (λ x. (depth_of x ≡ d) × Traced m x) (λ _. ⊥)
 
 -- what is said of a settled search
 pub data Conclusion (m : Model) (j : ℕ) : Report → Type 0 where
   is_safe : verdict (system m) j ≡ safe → Conclusion m j (report.Safe (sizes m.circuit) j (insides m j))
-  is_unsafe : {x : Trace} → x.depth ≡ j → verdict (system m) j ≡ unsafe j → Traced m x → Conclusion m j (report.Unsafe (sizes m.circuit) x)
+  is_unsafe : {x : Trace} → depth_of x ≡ j → verdict (system m) j ≡ unsafe j → Traced m x → Conclusion m j (report.Unsafe (sizes m.circuit) x)
 
 abbrev pub Concludes : World → List ℕ → ℕ → Verdict → Result Report Refusal → Type 0
 Concludes w file j a r = (s : Shown) (m : Model) → Come s m j w → a ≡ told (loaded m j) → sizes_at file ≡ sizes m.circuit → MatchResult r (Conclusion m j) (λ _. ⊥)

@@ -1,28 +1,16 @@
 // What a settled search has come to.
-ghost use Rattle.std.specs.Prelude.{◌≡◌, ◌≤◌};
+ghost use Rattle.std.specs.Prelude.{◌≤◌};
 ghost use Rattle.circuit.specs.Files.{registers};
 ghost use Rattle.engine.specs.Keeping.{world};
-ghost use Rattle.decide.specs.Searches.{sizes_at, CountsInside, HandsOut, Decided, Concludes};
+ghost use Rattle.decide.specs.Searches.{CountsInside, HandsOut, Decided, Concludes};
 
 use super::report::Report;
 use super::trace::Trace;
-use circuit::number_at;
-use circuit::sizes::Sizes;
+use circuit::sizes_at;
 use engine::session::Session;
 use making::fault::Fault;
 use store::Store;
 use uses::verdict::Verdict;
-
-// The sizes in a circuit file.
-fn sizes_of(file: &[u8]) -> Sizes
-    ensures { result ≡ sizes_at file.now }
-{
-    Sizes {
-        registers: number_at(file, 0),
-        inputs: number_at(file, 1),
-        gates: number_at(file, 2),
-    }
-}
 
 // How many of the states are inside.
 fn count_inside<S: Store>(session: &mut Session<S>, registers: u16) -> Result<u16, Fault>
@@ -31,10 +19,7 @@ fn count_inside<S: Store>(session: &mut Session<S>, registers: u16) -> Result<u1
 {
     let mut count = 0;
     for q in 0..1 << registers {
-        let inside = session.inside(q)?;
-        if inside {
-            count += 1;
-        }
+        count += u16::from(session.inside(q)?);
     }
     Ok(count)
 }
@@ -46,11 +31,8 @@ fn read_trace<S: Store>(session: &mut Session<S>, depth: u16) -> Result<Trace, F
     let mut states = [0; 257];
     let mut inputs = [0; 257];
     session.trace(&mut states, &mut inputs)?;
-    Ok(Trace {
-        depth,
-        states,
-        inputs,
-    })
+    let count = depth as usize + 1;
+    Ok(Trace::of(&states[..count], &inputs[..count]))
 }
 
 // The report on a job with this circuit file, whose search has settled after so many advances.
@@ -65,7 +47,7 @@ pub(crate) fn conclude<S: Store>(
     requires decided { Decided verdict }
     ensures { Concludes (world S.Store.shows session.old) file.now depth verdict result }
 {
-    let sizes = sizes_of(file);
+    let sizes = sizes_at(file);
     match verdict {
         Verdict::Safe => {
             let inside = count_inside(session, sizes.registers)?;

@@ -1,8 +1,9 @@
 ghost use Rattle.std.specs.Prelude.{◌≡◌};
 ghost use Rattle.decide.specs.declared.fault.Fault.TheVariants.{Frame as of_frame, Call as of_call};
-ghost use Rattle.decide.specs.Faults.{number_of, part_of, place_of};
+ghost use Rattle.decide.specs.Faults.{notice_of};
 
 use job::fault::Fault as Unframed;
+use job::notice::Notice;
 use making::fault::Fault as Refusal;
 
 // Why a job is refused.
@@ -31,30 +32,16 @@ impl From<Refusal> for Fault {
 }
 
 impl Fault {
-    pub fn number(self) -> u8
-        ensures { result ≡ number_of self }
+    pub fn notice(self) -> Notice
+        ensures { result ≡ notice_of self }
     {
         match self {
-            Fault::Frame(refusal) => refusal.number(),
-            Fault::Call(refusal) => refusal.number(),
-        }
-    }
-
-    pub fn part(self) -> u8
-        ensures { result ≡ part_of self }
-    {
-        match self {
-            Fault::Frame(refusal) => refusal.part(),
-            Fault::Call(refusal) => refusal.part(),
-        }
-    }
-
-    pub fn place(self) -> usize
-        ensures { result ≡ place_of self }
-    {
-        match self {
-            Fault::Frame(refusal) => refusal.place(),
-            Fault::Call(refusal) => refusal.place(),
+            Fault::Frame(fault) => fault.notice(),
+            Fault::Call(fault) => Notice {
+                number: fault.number(),
+                part: fault.part(),
+                place: fault.place(),
+            },
         }
     }
 }

@@ -27,8 +27,7 @@ fn run<S: Store + Drop>(job: &[u8], store: S) -> Result<Report, Fault>
     let first = session.load(frame.circuit, frame.assumption, frame.property)?;
     let depth = settle(&mut session, first)?;
     let verdict = session.verdict();
-    let report = conclude(&mut session, frame.circuit, depth, verdict)?;
-    Ok(report)
+    Ok(conclude(&mut session, frame.circuit, depth, verdict)?)
 }
 
 // What is to be said of a job, whatever its bytes, by a search in the store.
@@ -38,8 +37,5 @@ pub fn report_on<S: Store + Drop>(job: &[u8], store: S) -> Report
     ensures accepted { Accepted (S.Store.shows store) job.now result }
     ensures broken { Broken (S.Store.shows store) job.now result }
 {
-    match run(job, store) {
-        Ok(report) => report,
-        Err(fault) => Report::Refused(fault),
-    }
+    run(job, store).unwrap_or_else(Report::Refused)
 }

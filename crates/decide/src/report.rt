@@ -3,7 +3,7 @@ use super::trace::Trace;
 use circuit::sizes::Sizes;
 
 // What is said of a job.
-#[derive(Clone, Copy)]
+#[derive(Drop)]
 pub enum Report {
     // After so many advances; so many states are inside.
     Safe {

@@ -11,9 +11,9 @@ impl fmt::Display for Trace {
     ghost output = { λ t. Some (steps_text t) };
 
     fn fmt<W: fmt::Write>(&self, f: &mut fmt::Formatter<W>) -> fmt::Result {
-        for t in 0..self.depth + 1 {
-            let state = self.states[t as usize];
-            let input = self.inputs[t as usize];
+        for (t, step) in self.steps.as_slice().iter().enumerate() {
+            let state = step.state;
+            let input = step.input;
             write!(f, "{t} {state} {input}\n")?;
         }
         Ok(())
@@ -29,33 +29,20 @@ impl fmt::Display for Report {
                 sizes,
                 depth,
                 inside,
-            } => {
-                let n = sizes.registers;
-                let m = sizes.inputs;
-                let k = sizes.gates;
-                write!(
-                    f,
-                    "registers {n} inputs {m} gates {k}\nverdict safe\ndepth {depth}\ninside {inside}\naccepted 1\n"
-                )
-            }
+            } => write!(
+                f,
+                "{sizes}\nverdict safe\ndepth {depth}\ninside {inside}\naccepted 1\n"
+            ),
             Report::Unsafe { sizes, trace } => {
-                let n = sizes.registers;
-                let m = sizes.inputs;
-                let k = sizes.gates;
-                let depth = trace.depth;
+                let depth = trace.depth();
                 write!(
                     f,
-                    "registers {n} inputs {m} gates {k}\nverdict unsafe\ndepth {depth}\n{trace}accepted 0\n"
+                    "{sizes}\nverdict unsafe\ndepth {depth}\n{trace}accepted 0\n"
                 )
             }
             Report::Refused(fault) => {
-                let number = fault.number();
-                let part = fault.part();
-                let place = fault.place();
-                write!(
-                    f,
-                    "refused {number} part {part} place {place}\naccepted 0\n"
-                )
+                let notice = fault.notice();
+                write!(f, "{notice}\naccepted 0\n")
             }
         }
     }

@@ -1,24 +1,10 @@
--- A fault's number, part and place. Parts are 0 job, 1 circuit, 2 assumption, 3 property.
-use Rattle.std.specs.Prelude.{ℕ}
-use Rattle.circuit.specs.Reading as circuit
-use Rattle.claim.specs.Faults as claim
+-- What is told of a fault.
+use Rattle.description.specs.Faults.{number_of, part_of, place_of}
+use Rattle.description.specs.declared.part.Part.TheVariants as part
 use Rattle.job.specs.declared.fault.Fault.{Fault}
-use Rattle.job.specs.declared.fault.Fault.TheVariants.{Length, Circuit, Assumption, Property}
+use Rattle.job.specs.declared.fault.Fault.TheVariants.{Length, Description}
+use Rattle.job.specs.declared.notice.Notice.{Notice}
 
-abbrev pub number_of : Fault → ℕ
-number_of (Length b) = 2
-number_of (Circuit e) = circuit.number_of e
-number_of (Assumption f) = claim.number_of f
-number_of (Property f) = claim.number_of f
-
-abbrev pub part_of : Fault → ℕ
-part_of (Length b) = 0
-part_of (Circuit e) = 1
-part_of (Assumption f) = 2
-part_of (Property f) = 3
-
-abbrev pub place_of : Fault → ℕ
-place_of (Length b) = b
-place_of (Circuit e) = circuit.place_of e
-place_of (Assumption f) = claim.place_of f
-place_of (Property f) = claim.place_of f
+abbrev pub notice_of : Fault → Notice
+notice_of (Length b) = record { number = 2; part = part.Job; place = b }
+notice_of (Description e) = record { number = number_of e; part = part_of e; place = place_of e }

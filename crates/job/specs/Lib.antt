@@ -1,3 +1,4 @@
+pub mod Notices
 pub mod Faults
 pub mod Frames
 pub mod Reports

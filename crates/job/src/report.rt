@@ -1,11 +1,8 @@
 use super::fault::Fault;
+use circuit::sizes::Sizes;
 
 #[derive(Clone, Copy, PartialEq, Eq, Debug)]
 pub enum Report {
-    Read {
-        registers: u8,
-        inputs: u8,
-        gates: u16,
-    },
+    Read(Sizes),
     Refused(Fault),
 }

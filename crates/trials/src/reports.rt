@@ -1,4 +1,5 @@
 // Jobs from their bytes to the text of the report.
+use crate::jobs::JOB;
 use decide::report_on;
 use diagram::Diagram;
 use nodes::Node;
@@ -6,18 +7,9 @@ use std::alloc::{AllocError, Global};
 use std::process::Abort;
 use std::test::Fail;
 
-// One register that follows one input, with the assumption `1` and the property `!s0`.
-const JOB: [u8; 22] = [
-    1, 0, 3, 0, 1, 0, 1, 0, 2, 0, 4, 0, 3, 0, 4, 0, 3, 0, b'1', b'!', b's', b'0',
-];
-
 // The text of the report on a job, in a store of so many records.
 fn text_of(heap: Global, job: &[u8], records: usize) -> Result<String, AllocError> {
-    let mut nodes = vec![in heap; Node {
-        variable: 0,
-        low: 0,
-        high: 0
-    }; records]?;
+    let mut nodes = vec![in heap; Node::default(); records]?;
     let report = report_on(job, Diagram::new(24, &mut nodes));
     format!(in heap; "{report}")
 }

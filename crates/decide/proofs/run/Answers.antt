@@ -47,15 +47,15 @@ conclude-requires g c =
       decided = decided b.model c.in_ok-depth.depth c.verdict-verdict.result a e.settled;
     }
 
-pub returns-in_err-report : goal.returns-in_err-report
-returns-in_err-report g c =
+pub returns-in_err-conclude : goal.returns-in_err-conclude
+returns-in_err-conclude g c =
     let s = g.S.Store.shows c.args.store in
     let n = c.new-session.ensures in
     let b = loaded_by s (world g.S.Store.shows c.new-session.result) (world g.S.Store.shows c.load.new.self) n.store n.begun n.keeps c.in_ok-first.ensures.next in
     let e = c.in_ok-depth.ensures.settles s b.model b.come b.told_is in
     let a = answered_by s b.model c.in_ok-depth.depth (world g.S.Store.shows c.settle.new.session) _ e.come c.verdict-verdict.ensures.next in
     let k = subst (λ z. Come s b.model c.in_ok-depth.depth (world g.S.Store.shows z)) (sym c.verdict-verdict.ensures.same) e.come in
-    absurd (c.in_err-report.ensures s b.model k a (sizes_are s.vars c.in_ok-frame.frame.circuit.now b.model.circuit b.describes.circuit))
+    absurd (c.in_err-conclude.ensures s b.model k a (sizes_are s.vars c.in_ok-frame.frame.circuit.now b.model.circuit b.describes.circuit))
 
 pub returns : goal.returns
 returns g c =
@@ -65,5 +65,5 @@ returns g c =
     let e = c.in_ok-depth.ensures.settles s b.model b.come b.told_is in
     let a = answered_by s b.model c.in_ok-depth.depth (world g.S.Store.shows c.settle.new.session) _ e.come c.verdict-verdict.ensures.next in
     let k = subst (λ z. Come s b.model c.in_ok-depth.depth (world g.S.Store.shows z)) (sym c.verdict-verdict.ensures.same) e.come in
-    concluded s c.args.job.now (parts c.in_ok-frame.frame) (sym c.in_ok-frame.ensures) b.model b.describes _ _ c.in_ok-report.report e.come.searched
-    (c.in_ok-report.ensures s b.model k a (sizes_are s.vars c.in_ok-frame.frame.circuit.now b.model.circuit b.describes.circuit))
+    concluded s c.args.job.now (parts c.in_ok-frame.frame) (sym c.in_ok-frame.ensures) b.model b.describes _ _ _ e.come.searched
+    (c.in_ok-conclude.ensures s b.model k a (sizes_are s.vars c.in_ok-frame.frame.circuit.now b.model.circuit b.describes.circuit))

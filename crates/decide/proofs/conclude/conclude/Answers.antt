@@ -15,7 +15,7 @@ same_count t = cc
 
 pub returns-in_err-inside-in-Safe : goal.returns-in_err-inside-in-Safe
 returns-in_err-inside-in-Safe g c s m k a e =
-    let n = ap (λ (z : Sizes). z.registers) (c.sizes_of-sizes.ensures ∙ e) in
+    let n = ap (λ (z : Sizes). z.registers) (c.sizes_at-sizes.ensures ∙ e) in
     let o = told_safe m c.args.depth c.args.verdict a c.in-Safe.is in
     handed_on _ _ c.from_residual.result c.in_err-inside-in-Safe.field-0.0 c.from_residual.ensures.1 (refused (c.in_err-inside-in-Safe.ensures s m c.args.depth k o n))
 
@@ -27,7 +27,7 @@ returns-in_err-trace-in-Unsafe g c s m k a e =
 pub returns-in_ok-inside-in-Safe : goal.returns-in_ok-inside-in-Safe
 returns-in_ok-inside-in-Safe g c s m k a e =
     let j = c.args.depth in
-    let z = c.sizes_of-sizes.ensures ∙ e in
+    let z = c.sizes_at-sizes.ensures ∙ e in
     let o = told_safe m j c.args.verdict a c.in-Safe.is in
     let n = same_count (c.in_ok-inside-in-Safe.ensures s m j k o (ap (λ (z : Sizes). z.registers) z)) in
     subst (Conclusion m j) (λ i. report.Safe (sym z i) j (sym n i)) (is_safe o)
@@ -35,7 +35,7 @@ returns-in_ok-inside-in-Safe g c s m k a e =
 pub returns-in_ok-trace-in-Unsafe : goal.returns-in_ok-trace-in-Unsafe
 returns-in_ok-trace-in-Unsafe g c s m k a e =
     let j = c.args.depth in
-    let z = c.sizes_of-sizes.ensures ∙ e in
+    let z = c.sizes_at-sizes.ensures ∙ e in
     let o = told_unsafe s m j c.in-Unsafe.field-0 _ c.args.verdict k a c.in-Unsafe.is in
     let t = c.in_ok-trace-in-Unsafe.ensures s m k o in
     subst (Conclusion m j) (λ i. report.Unsafe (sym z i) c.in_ok-trace-in-Unsafe.trace) (is_unsafe t.0 o t.1)

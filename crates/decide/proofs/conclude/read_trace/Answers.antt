@@ -1,6 +1,11 @@
-use Rattle.std.proofs.Common.{refl, arith}
+use Rattle.std.proofs.Common.{◌≡◌, suc, length, map, take, replicate, refl, ap, sym, subst, ◌∙◌, add-one, length-take, arith}
+use Rattle.std.proofs.lemmas.List.{length-map}
+use Rattle.runs.specs.Models.{system}
+use Rattle.runs.specs.Search.{Trace}
 use Rattle.engine.specs.Keeping.{world}
+use Rattle.decide.specs.Traces.{depth_of, state_at, input_at}
 use Rattle.decide.proofs.Sessions.{handed_by}
+use Rattle.decide.proofs.Traces.{step_is, trace_like}
 use Rattle.decide.proofs.conclude.read_trace.Goals as goal
 
 pub returns-in_err-trace : goal.returns-in_err-trace
@@ -9,5 +14,16 @@ returns-in_err-trace g c s m k o =
 
 pub returns : goal.returns
 returns g c s m k o =
-    let h = handed_by s m c.args.depth (world g.S.Store.shows c.args.session.now) (world g.S.Store.shows c.trace.new.self) k o c.in_ok-trace.ensures.next (omega arith) (omega arith) in
-    (refl, record { states = h.states; inputs = h.inputs; trace = h.trace; states_are = h.states_are; inputs_are = h.inputs_are })
+    let d = c.args.depth in
+    let x = c.of.result in
+    let h = handed_by s m d (world g.S.Store.shows c.args.session.now) (world g.S.Store.shows c.trace.new.self) k o c.in_ok-trace.ensures.next (omega arith) (omega arith) in
+    let a : map (λ s. s.state) x.steps.items ≡ take (suc d) c.trace.new.states = rw (← add-one) c.of.ensures.states in
+    let b : map (λ s. s.input) x.steps.items ≡ take (suc d) c.trace.new.inputs = rw (← add-one) c.of.ensures.inputs in
+    let n = sym (length-map x.steps.items (λ s. s.state)) ∙ ap length a ∙ length-take (suc d) c.trace.new.states in
+    let e : depth_of x ≡ d = omega arith in (
+      e,
+      subst (λ i. Trace (system m) i (state_at x) (input_at x)) (sym e) (trace_like (system m) d h.states h.inputs (state_at x) (input_at x)
+          (step_is (λ s. s.state) (suc d) h.states (replicate 257 0) c.trace.new.states x.steps.items refl h.states_are a)
+          (step_is (λ s. s.input) (suc d) h.inputs (replicate 257 0) c.trace.new.inputs x.steps.items refl h.inputs_are b)
+          h.trace),
+    )

@@ -1,6 +1,6 @@
 use Rattle.std.proofs.Common.{ℕ, List, sym, ap, ◌∙◌, subst}
 use Rattle.std.specs.Fmt.{HasWritten}
-use Rattle.decide.specs.Texts.{text, refused_text}
+use Rattle.decide.specs.Texts.{steps_text, text, unsafe_text, refused_text}
 use Rattle.decide.proofs.text.ReportDisplay.fmt.Goals as goal
 
 pub returns-in-Safe-clause-writes : goal.returns-in-Safe-clause-writes
@@ -9,7 +9,8 @@ returns-in-Safe-clause-writes g c p o =
 
 pub returns-in-Unsafe-clause-writes : goal.returns-in-Unsafe-clause-writes
 returns-in-Unsafe-clause-writes g c p o =
-    subst (λ (bs : List ℕ). HasWritten g.W.Write.write_str_gives c.args.f.now bs c.write-in-Unsafe.new.self) (sym (ap text c.in-Unsafe.is)) (c.write-in-Unsafe.ensures.writes p o)
+    subst (λ (bs : List ℕ). HasWritten g.W.Write.write_str_gives c.args.f.now bs c.write-in-Unsafe.new.self)
+    ((λ i. unsafe_text c.in-Unsafe.sizes (c.depth-depth.ensures i) (steps_text c.in-Unsafe.trace)) ∙ sym (ap text c.in-Unsafe.is)) (c.write-in-Unsafe.ensures.writes p o)
 
 pub returns-in-Refused-clause-writes : goal.returns-in-Refused-clause-writes
 returns-in-Refused-clause-writes g c p o =

@@ -1,6 +1,7 @@
-use Rattle.std.proofs.Common.{◌≡◌, suc, get_or, is_ok, ap, subst, add-one, arith}
+use Rattle.std.proofs.Common.{◌≡◌, length, get_or, is_ok, ap, subst, add-one, arith}
 use Rattle.std.specs.Fmt.{HasWritten}
 use Rattle.std.proofs.Output.{writes_in_calls_nil, has_written_append}
+use Rattle.decide.specs.Traces.{none}
 use Rattle.decide.specs.Texts.{steps_before}
 use Rattle.decide.proofs.text.TraceDisplay.fmt.Goals as goal
 
@@ -15,6 +16,7 @@ loop-t-preserved g c p =
 
 pub returns-clause-writes : goal.returns-clause-writes
 returns-clause-writes g c p o =
-    let t = c.args.self.now in
-    let e : c.loop-t.t-counter ≡ suc t.depth = omega arith in
-    subst (λ n. HasWritten g.W.Write.write_str_gives c.args.f.now (steps_before n (λ i. get_or t.states i 0) (λ i. get_or t.inputs i 0)) c.loop-t.f) e (c.loop-t.invariant p)
+    let xs = c.as_slice-step-items.result.now in
+    let e : c.loop-t.t-counter ≡ length xs = omega arith in
+    let f = subst (λ n. HasWritten g.W.Write.write_str_gives c.args.f.now (steps_before n (λ i. (get_or xs i none).state) (λ i. (get_or xs i none).input)) c.loop-t.f) e (c.loop-t.invariant p) in
+    subst (λ xs. HasWritten g.W.Write.write_str_gives c.args.f.now (steps_before (length xs) (λ i. (get_or xs i none).state) (λ i. (get_or xs i none).input)) c.loop-t.f) c.as_slice-step-items.ensures.value f

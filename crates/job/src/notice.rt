@@ -1,0 +1,24 @@
+ghost use Rattle.std.specs.Prelude.{Some};
+ghost use Rattle.job.specs.Notices.{notice_text};
+
+use description::part::Part;
+use std::fmt;
+
+// What is told of a refusal: its number, the part that it lies in, and the place there.
+#[derive(Clone, Copy, PartialEq, Eq, Debug)]
+pub struct Notice {
+    pub number: u8,
+    pub part: Part,
+    pub place: usize,
+}
+
+impl fmt::Display for Notice {
+    ghost output = { λ n. Some (notice_text n) };
+
+    fn fmt<W: fmt::Write>(&self, f: &mut fmt::Formatter<W>) -> fmt::Result {
+        let number = self.number;
+        let part = self.part.number();
+        let place = self.place;
+        write!(f, "refused {number} part {part} place {place}")
+    }
+}
