@@ -1,5 +1,4 @@
 use Rattle.std.proofs.Common.{◌≤◌, length, Ok, Err, sym, ap, ◌∙◌, subst, append_assoc, arith}
-use Rattle.std.proofs.lemmas.List.{length-take}
 use Rattle.store.specs.Fun.{bit}
 use Rattle.circuit.specs.Netlists.{lines}
 use Rattle.circuit.specs.Reading.{netlist}
@@ -20,11 +19,11 @@ use Rattle.making.proofs.load.build.Goals as goal
 
 pub make_claim-requires : goal.make_claim-requires
 make_claim-requires g c =
-    omega (arith, ap length c.codes.ensures, length-take c.args.assumption.now.count c.args.assumption.now.list, c.args.assumption.now.within)
+    omega (arith, ap length c.codes.ensures, c.args.assumption.now.within)
 
 pub make_claim-requires-2 : goal.make_claim-requires-2
 make_claim-requires-2 g c =
-    omega (arith, ap length c.codes-2.ensures, length-take c.args.property.now.count c.args.property.now.list, c.args.property.now.within)
+    omega (arith, ap length c.codes-2.ensures, c.args.property.now.within)
 
 pub returns-in_err-lines : goal.returns-in_err-lines
 returns-in_err-lines g c h q eh eq kh kq l w =
