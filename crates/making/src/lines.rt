@@ -11,10 +11,10 @@ use claim::code::Sort;
 // Line 0, and most registers, inputs and gates.
 const MOST_LINES: usize = 1 + 8 + 8 + 1024;
 
-// The numbers of the first lines, in their order.
+// The numbers of the first lines, in their order. They are a parameter beside the circuit while they grow, since `Lines` is whole.
 pub(crate) type Numbers = ArrayVec<u16, MOST_LINES>;
 
-// The numbers of all lines of a circuit, and of its registers' copies.
+// The numbers of all lines of a circuit, and of its registers' copies. The store stays a parameter beside it, since a step back has a store and no lines.
 #[derive(Drop)]
 pub(crate) struct Lines<'a> {
     pub(crate) circuit: &'a Circuit,

@@ -12,6 +12,7 @@ pub struct Polarities {
 // The numbers that an advance works with: of the registers' copies, the next values, the claims and Init.
 #[derive(Drop)]
 pub struct Parts {
+    // How many registers and inputs, in the type that variables are counted in, which the lists' length is not.
     pub n: u8,
     pub m: u8,
     pub copies: ArrayVec<Polarities, 8>,
