@@ -13,7 +13,6 @@ use Rattle.uses.specs.declared.verdict.Verdict.{Verdict}
 use Rattle.uses.specs.declared.verdict.Verdict.TheVariants as answer
 use Rattle.uses.specs.Calls.{State, empty, loaded, tell, told, Call, load, advance, ask, trace, inside, Stand, stand, Event, event, written, Checked, right}
 use Rattle.uses.specs.Uses.{room, Step, load_wrong, load_full, loads, advance_settled, advance_full, advances, asks, trace_verdict, trace_short, traces, inside_verdict, inside_state, insides, Use, went_on}
-use Rattle.uses.proofs.Checks.{never}
 use Rattle.uses.proofs.Uses.{closed, come}
 use Rattle.engine.specs.Keeping.{World, Keeps, Next}
 use Rattle.decide.specs.Reports.{Searched, begun, advanced}
@@ -108,30 +107,24 @@ module _ (s : Shown) (m : Model) (j : ℕ) where
       let bound : 2 ^ m.circuit.registers ≤ 2 ^ 8 = pow_mono c.keeps.valid.circuit.few_registers in
       omega arith
 
-tell_open : (x : search.Verdict) → tell x ≡ answer.Open → x ≡ open_yet
-tell_open (unsafe d) e = never (cc)
-tell_open safe e = never (cc)
-tell_open open_yet e = refl
+-- the verdict that is told
+abbrev pub untell : Verdict → search.Verdict
+untell answer.Empty = open_yet
+untell answer.Open = open_yet
+untell answer.Safe = safe
+untell (answer.Unsafe d) = unsafe d
 
-pub told_open : (m : Model) (j : ℕ) (v : Verdict) → v ≡ told (loaded m j) → v ≡ answer.Open → verdict (system m) j ≡ open_yet
-told_open m j v e o = tell_open (verdict (system m) j) (sym e ∙ o)
+untold : (x : search.Verdict) → x ≡ untell (tell x)
+untold (unsafe d) = refl
+untold safe = refl
+untold open_yet = refl
 
-tell_safe : (x : search.Verdict) → tell x ≡ answer.Safe → x ≡ safe
-tell_safe (unsafe d) e = never (cc)
-tell_safe safe e = refl
-tell_safe open_yet e = never (cc)
-
-tell_unsafe : (x : search.Verdict) (d : ℕ) → tell x ≡ answer.Unsafe d → x ≡ unsafe d
-tell_unsafe (unsafe k) d e = let h : k ≡ d = cc in ap unsafe h
-tell_unsafe safe d e = never (cc)
-tell_unsafe open_yet d e = never (cc)
-
-pub told_safe : (m : Model) (j : ℕ) (v : Verdict) → v ≡ told (loaded m j) → v ≡ answer.Safe → verdict (system m) j ≡ safe
-told_safe m j v e o = tell_safe (verdict (system m) j) (sym e ∙ o)
+pub told_is : (m : Model) (j : ℕ) (v : Verdict) → v ≡ told (loaded m j) → {a : Verdict} → v ≡ a → verdict (system m) j ≡ untell a
+told_is m j v e o = untold (verdict (system m) j) ∙ ap untell (sym e ∙ o)
 
 pub told_unsafe : (s : Shown) (m : Model) (j d : ℕ) (w : World) (v : Verdict) → Come s m j w → v ≡ told (loaded m j) → v ≡ answer.Unsafe d → verdict (system m) j ≡ unsafe j
 told_unsafe s m j d w v c e o =
-    let h = tell_unsafe (verdict (system m) j) d (sym e ∙ o) in
+    let h = told_is m j v e o in
     h ∙ ap unsafe ((verdicts (system m) (closed m) j (come c.led).0).unsafely d h).0
 
 pub not_open : (m : Model) (j : ℕ) (v : Verdict) → v ≡ told (loaded m j) → (v ≡ answer.Open → ⊥) → verdict (system m) j ≡ open_yet → ⊥

@@ -45,7 +45,7 @@ module _ {m : Model} {s : Shown} {i j : ℕ} {t u : Shown} (f : Searched m s i t
 same_trace : (x y : Trace) → depth_of x ≡ depth_of y → ((t : ℕ) → t ≤ depth_of x → (state_at x t ≡ state_at y t) × (input_at x t ≡ input_at y t)) → x ≡ y
 same_trace x y d h =
     let e : x.steps.items ≡ y.steps.items =
-    ext_get_or none _ _ (omega arith) (λ t l i. record { state = (h t (omega arith)).0 i; input = (h t (omega arith)).1 i }) in
+    ext_get_or none x.steps.items y.steps.items (omega arith) (λ t l i. record { state = (h t (omega arith)).0 i; input = (h t (omega arith)).1 i }) in
     λ i. record { steps = record { items = e i }; begun = to_path_p (λ i. 0 < length (e i)) {a = x.begun} {b = y.begun} (le_prop _ _) i }
 
 -- the trace of a depth
