@@ -2,9 +2,9 @@ use Rattle.std.proofs.Common.{◌≡◌, ℕ, Ok, Err, Result, sym, ap, ◌∙�
 use Rattle.circuit.specs.declared.sizes.Sizes.{Sizes}
 use Rattle.making.specs.declared.fault.Fault.{Fault}
 use Rattle.decide.specs.declared.report.Report.TheVariants as report
-use Rattle.uses.proofs.Checks.{never}
+use Rattle.description.proofs.Checks.{never}
 use Rattle.decide.specs.Searches.{Conclusion, is_safe, is_unsafe}
-use Rattle.decide.proofs.Sessions.{told_is, told_unsafe, handed_on}
+use Rattle.decide.proofs.Sessions.{told_safe, told_unsafe, handed_on}
 use Rattle.decide.proofs.conclude.conclude.Goals as goal
 
 refused : {e : Fault} {b : ℕ} → ◌≡◌ {A = Result ℕ Fault} (Err e) (Ok b) → ⊥
@@ -16,7 +16,7 @@ same_count t = cc
 pub returns-in_err-inside-in-Safe : goal.returns-in_err-inside-in-Safe
 returns-in_err-inside-in-Safe g c s m k a e =
     let n = ap (λ (z : Sizes). z.registers) (c.sizes_at-sizes.ensures ∙ e) in
-    let o = told_is m c.args.depth c.args.verdict a c.in-Safe.is in
+    let o = told_safe m c.args.depth c.args.verdict a c.in-Safe.is in
     handed_on _ _ c.from_residual.result c.in_err-inside-in-Safe.field-0.0 c.from_residual.ensures.1 (refused (c.in_err-inside-in-Safe.ensures s m c.args.depth k o n))
 
 pub returns-in_err-trace-in-Unsafe : goal.returns-in_err-trace-in-Unsafe
@@ -28,7 +28,7 @@ pub returns-in_ok-inside-in-Safe : goal.returns-in_ok-inside-in-Safe
 returns-in_ok-inside-in-Safe g c s m k a e =
     let j = c.args.depth in
     let z = c.sizes_at-sizes.ensures ∙ e in
-    let o = told_is m j c.args.verdict a c.in-Safe.is in
+    let o = told_safe m j c.args.verdict a c.in-Safe.is in
     let n = same_count (c.in_ok-inside-in-Safe.ensures s m j k o (ap (λ (z : Sizes). z.registers) z)) in
     subst (Conclusion m j) (λ i. report.Safe (sym z i) j (sym n i)) (is_safe o)
 
