@@ -1,6 +1,6 @@
 pub mod Extending
 pub mod Lines
 pub mod Checks
-pub mod Steps
-pub mod Whole
+pub mod Marks
+pub mod Deciding
 pub mod Passing

@@ -1,11 +1,11 @@
 -- Each line has one value, and the test whether a line touches an input tells it.
-use Rattle.std.proofs.Common.{◌≡◌, ℕ, zero, suc, ◌+◌, ◌-◌, ◌/◌, ◌<◌, ◌≤◌, Bool, true, false, ◌⊎◌, List, ◌∷◌, ◌++◌, map, length, get_or, replicate, Decides, sym, refl, ap, ◌∙◌, subst, inl, inr, ⊎_elim, arith}
+use Rattle.std.proofs.Common.{◌≡◌, ℕ, zero, suc, ◌+◌, ◌-◌, ◌/◌, ◌<◌, ◌≤◌, Bool, true, false, ◌⊎◌, List, ◌∷◌, ◌++◌, map, length, get_or, replicate, ltb, Decides, sym, refl, ap, ◌∙◌, subst, inl, inr, ⊎_elim, arith}
 use native.Mathlib.Decide.{dec_lt}
 use Rattle.std.specs.List.{range_with_len}
 use Rattle.std.proofs.lemmas.List.FromFn.{get_or-map-range_with_len, length-map-range_with_len}
-use Rattle.std.proofs.lemmas.List.{get_or_append_left, get_or-append-add, get_or-replicate, length-append, length-replicate}
-use Rattle.std.proofs.lemmas.Bool.{both_ways}
-use Rattle.std.proofs.lemmas.Bool.Decides.{Decides-at, Decides-like, Decides-or}
+use Rattle.std.proofs.lemmas.List.{get_or_append_left, get_or-append-add, get_or-append_right, get_or-replicate, length-append, length-replicate}
+use Rattle.std.proofs.lemmas.Bool.{both_ways, lt-ltb, le-ltb}
+use Rattle.std.proofs.lemmas.Bool.Decides.{nat_tests, Decides-at, Decides-like, Decides-or}
 use Rattle.circuit.specs.Netlists.{Netlist, gate, input_line, gate_line, lines, init_line}
 use Rattle.circuit.specs.Lines.{conjunction, either, Values, Touches, input, left, right, line, touching}
 use Rattle.circuit.specs.Rules.{Wired, Sound, Determined}
@@ -13,8 +13,8 @@ use Rattle.circuit.proofs.Extending.{conjunction_local, either_local, kept, rule
 
 -- what stands before the gates: false, then a part for the registers and one for the inputs
 module _ (n m : ℕ) (a b : List Bool) (la : length a ≡ n) (lb : length b ≡ m) where
-  front_length : length (false ∷ (a ++ b)) ≡ 1 + n + m
-  front_length = omega (arith, length-append a b)
+  parts_length : length (false ∷ (a ++ b)) ≡ 1 + n + m
+  parts_length = omega (arith, length-append a b)
 
   first_part : (i : ℕ) → i < n → get_or (false ∷ (a ++ b)) (1 + i) false ≡ get_or a i false
   first_part i h =
@@ -25,6 +25,18 @@ module _ (n m : ℕ) (a b : List Bool) (la : length a ≡ n) (lb : length b ≡ 
   second_part j h =
       let e : 1 + n + j ≡ suc (length a + j) = omega arith in
       ap (λ x. get_or (false ∷ (a ++ b)) x false) e ∙ get_or-append-add a b j false
+
+module _ (c : Netlist) where
+  -- what marks the lines before the gates: false, then a part for the registers and one for the inputs
+  abbrev pub front : List Bool
+  front = false ∷ (replicate c.registers false ++ replicate c.inputs true)
+
+  pub front_length : length front ≡ gate_line c 0
+  front_length = grind (arith, length-append, length-replicate)
+
+  pub front_at : (x : ℕ) → x < gate_line c 0 → get_or front x false ≡ ltb c.registers x
+  front_at zero h = sym (le-ltb c.registers 0 (omega arith))
+  front_at (suc i) h = grind (arith, nat_tests, get_or_append_left, get_or-append_right, get_or-replicate, length-replicate)
 
 module _ (c : Netlist) (w : (g : ℕ) → g < length c.gates → Wired c g) where
   -- what a line is
@@ -61,7 +73,7 @@ module _ (c : Netlist) (w : (g : ℕ) → g < length c.gates → Wired c g) wher
         let b = inputs in
         let la : length a ≡ c.registers = length-map-range_with_len r 0 c.registers in
         let lb : length b ≡ c.inputs = length-map-range_with_len v 0 c.inputs in
-        let n = front_length c.registers c.inputs a b la lb in
+        let n = parts_length c.registers c.inputs a b la lb in
         record {
           zeroth = kept conjunction c.gates (false ∷ (a ++ b)) 0 (omega arith);
           register = λ i h.
@@ -119,29 +131,16 @@ module _ (c : Netlist) (w : (g : ℕ) → g < length c.gates → Wired c g) wher
 
   pub marked : Marked (touching c)
   unfolding touching
-  marked =
-      let a : List Bool = replicate c.registers false in
-      let b : List Bool = replicate c.inputs true in
-      let la : length a ≡ c.registers = length-replicate c.registers false in
-      let lb : length b ≡ c.inputs = length-replicate c.inputs true in
-      let n = front_length c.registers c.inputs a b la lb in
-      record {
-        early = λ x h. kept either c.gates (false ∷ (a ++ b)) x (omega arith) ∙ early x h;
-        inputs = λ j h.
-            kept either c.gates (false ∷ (a ++ b)) (input_line c j) (omega arith)
-            ∙ second_part c.registers c.inputs a b la lb j h
-            ∙ get_or-replicate c.inputs j true false h;
-        gated = λ g h.
-            let z : gate_line c g ≡ length (false ∷ (a ++ b)) + g = omega arith in
-            ap (touching c) z
-            ∙ ruled either either_local c.gates (false ∷ (a ++ b)) g h (omega (arith, (w g h).0)) (omega (arith, (w g h).1));
-      }
+  marked = record {
+    early = λ x h. before x (omega arith) ∙ le-ltb c.registers x h;
+    inputs = λ j h. before (input_line c j) (omega arith) ∙ lt-ltb c.registers (input_line c j) (omega arith);
+    gated = λ g h.
+        let z : gate_line c g ≡ length (front c) + g = omega (arith, front_length c) in
+        ap (touching c) z ∙ ruled either either_local c.gates (front c) g h (omega (arith, front_length c, (w g h).0)) (omega (arith, front_length c, (w g h).1));
+  }
     where
-      early : (x : ℕ) → x ≤ c.registers → get_or (false ∷ (replicate c.registers false ++ replicate c.inputs true)) x false ≡ false
-      early zero h = refl
-      early (suc i) h =
-          let l = length-replicate c.registers false in
-          get_or_append_left (replicate c.registers false) _ false i (omega arith) ∙ get_or-replicate c.registers i false false (omega arith)
+      before : (x : ℕ) → x < gate_line c 0 → touching c x ≡ ltb c.registers x
+      before x h = kept either c.gates (front c) x (omega (arith, front_length c)) ∙ front_at c x h
 
   tell_early : (x : ℕ) → x ≤ c.registers → Decides (touching c x) (Touches c x)
   tell_early x h = ((λ e. absurd (both_ways (touching c x) (marked.early x h) e)), (λ t. absurd (untouched x t h)))

@@ -6,8 +6,8 @@ use Rattle.std.proofs.lemmas.Bool.Decides.{not_from_Decides}
 use Rattle.circuit.specs.declared.refusal.Refusal.{Refusal}
 use Rattle.circuit.specs.declared.refusal.Refusal.TheVariants.{Length, Size, Width, Wire, Start}
 use Rattle.circuit.specs.declared.refusal.Size.TheVariants.{Registers, Inputs, Gates}
-use Rattle.circuit.specs.Netlists.{Netlist, init_line}
-use Rattle.circuit.specs.Files.{registers, inputs, count, gate_at, says}
+use Rattle.circuit.specs.Netlists.{Netlist, sizes, init_line}
+use Rattle.circuit.specs.Files.{registers, inputs, count, sizes_at, gate_at, says}
 use Rattle.circuit.specs.Lines.{touching}
 use Rattle.circuit.specs.Rules.{Wired, Sound, first_miswired, outside, refused_if, reading}
 use Rattle.circuit.proofs.Checks.{tested}
@@ -49,6 +49,9 @@ reading_says width bs c h = (all_passed width bs c h).is
 
 pub says_count : (bs : List ℕ) → length (says bs).gates ≡ count bs
 says_count bs = length-map-range_with_len (gate_at bs (count bs)) 0 (count bs)
+
+pub says_sizes : (bs : List ℕ) → sizes (says bs) ≡ sizes_at bs
+says_sizes bs = λ i. record { registers = registers bs; inputs = inputs bs; gates = says_count bs i }
 
 pub reading_sound : (width : ℕ) (bs : List ℕ) (c : Netlist) → reading width bs ≡ Ok c → Sound c × (2 * c.registers + c.inputs ≤ width)
 reading_sound width bs c h =

@@ -1,5 +1,5 @@
 -- A netlist: registers, inputs and gates, and which line is which.
-use Rattle.std.specs.Prelude.{ℕ, ◌+◌, ◌-◌, List, length, take, slice_index_or}
+use Rattle.std.specs.Prelude.{ℕ, ◌+◌, ◌-◌, List, length, slice_index_or}
 use Rattle.circuit.specs.declared.gate.Gate.{Gate}
 use Rattle.circuit.specs.declared.sizes.Sizes.{Sizes}
 
@@ -7,10 +7,6 @@ pub record Netlist : Type 0 where
   pub registers : ℕ
   pub inputs : ℕ
   pub gates : List Gate
-
--- the first `count` of an array of gates
-abbrev pub netlist_of : ℕ → ℕ → ℕ → List Gate → Netlist
-netlist_of registers inputs count gates = record { registers = registers; inputs = inputs; gates = take count gates }
 
 abbrev pub sizes : Netlist → Sizes
 sizes c = record { registers = c.registers; inputs = c.inputs; gates = length c.gates }

@@ -4,10 +4,10 @@ use Rattle.circuit.specs.declared.circuit.Circuit.{Circuit}
 use Rattle.circuit.specs.declared.refusal.Refusal.{Refusal}
 use Rattle.circuit.specs.declared.refusal.Refusal.TheVariants.{Length, Size, Width, Wire, Start}
 use Rattle.circuit.specs.declared.refusal.Size.TheVariants.{Registers, Inputs, Gates}
-use Rattle.circuit.specs.Netlists.{Netlist, netlist_of}
+use Rattle.circuit.specs.Netlists.{Netlist}
 
 abbrev pub netlist : Circuit → Netlist
-netlist c = netlist_of c.registers c.inputs c.count c.gates
+netlist c = c.netlist
 
 abbrev pub answered : Result Circuit Refusal → Result Netlist Refusal
 answered (Ok c) = Ok (netlist c)

@@ -1,17 +1,52 @@
-ghost use Rattle.std.specs.Prelude.{◌≡◌, ◌≤◌, length, take};
-ghost use Rattle.circuit.specs.Netlists.{netlist_of};
+ghost use Rattle.std.specs.Prelude.{◌≡◌, length};
+ghost use Rattle.circuit.specs.Netlists.{sizes};
 ghost use Rattle.circuit.specs.Rules.{Sound};
 
 use super::gate::Gate;
+use super::netlist::Netlist;
+use super::sizes::Sizes;
 
-// A circuit that passed every check of its file.
-#[derive(Clone, Copy)]
+// A netlist that passed every check of its file.
+#[derive(Drop)]
 pub struct Circuit {
-    pub(crate) registers: u8,
-    pub(crate) inputs: u8,
-    pub(crate) count: u16,
-    pub(crate) gates: [Gate; 1024],
-    ghost few: { count ≤ 1024 },
-    ghost counted: { length (take count gates) ≡ count },
-    ghost sound: { ∥ Sound (netlist_of registers inputs count gates) ∥₁ },
+    pub(crate) netlist: Netlist,
+    ghost sound: { ∥ Sound netlist ∥₁ },
+}
+
+impl Circuit {
+    ghost use Rattle.circuit.specs.Reading.{netlist};
+
+    pub fn sizes(&self) -> Sizes
+        ensures { result ≡ sizes (netlist self.now) }
+    {
+        Sizes {
+            registers: self.netlist.registers as u16,
+            inputs: self.netlist.inputs as u16,
+            gates: self.gate_count(),
+        }
+    }
+
+    pub fn registers(&self) -> u8
+        ensures { result ≡ (netlist self.now).registers }
+    {
+        self.netlist.registers
+    }
+
+    pub fn inputs(&self) -> u8
+        ensures { result ≡ (netlist self.now).inputs }
+    {
+        self.netlist.inputs
+    }
+
+    pub fn gate_count(&self) -> u16
+        ensures { result ≡ length (netlist self.now).gates }
+    {
+        self.netlist.gates.len() as u16
+    }
+
+    pub fn gates(&self) -> &[Gate]
+        ensures { result.now ≡ (netlist self.now).gates }
+    {
+        self.netlist.gates.as_slice()
+    }
 }

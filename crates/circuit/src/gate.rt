@@ -1,6 +1,27 @@
+ghost use Rattle.std.specs.Prelude.{◌≡◌, ◌/◌, ◌<◌, ◌&&◌, false, length, nat_lt, slice_index_or};
+ghost use Rattle.circuit.specs.Lines.{either};
+
 // The and of two literals. Literal 2x is line x, and 2x + 1 is its negation.
-#[derive(Clone, Copy, PartialEq, Eq, Debug)]
+#[derive(Clone, Copy, Default, PartialEq, Eq, Debug)]
 pub struct Gate {
     pub left: u16,
     pub right: u16,
+}
+
+impl Gate {
+    // Whether both literals name lines below `line`.
+    pub(crate) fn names_below(self, line: usize) -> bool
+        ensures { result ≡ (nat_lt (self.left / 2) line && nat_lt (self.right / 2) line) }
+    {
+        (self.left as usize / 2) < line && (self.right as usize / 2) < line
+    }
+
+    // Whether one of the literals names a line that is marked.
+    pub(crate) fn names_marked(self, marks: &[bool]) -> bool
+        requires left { self.left / 2 < length marks.now }
+        requires right { self.right / 2 < length marks.now }
+        ensures { result ≡ either (λ x. slice_index_or marks.now x false) self }
+    {
+        marks[self.left as usize / 2] || marks[self.right as usize / 2]
+    }
 }

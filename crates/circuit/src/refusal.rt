@@ -1,3 +1,6 @@
+ghost use Rattle.std.specs.Prelude.{◌≡◌};
+ghost use Rattle.circuit.specs.Reading.{number_of, place_of};
+
 // A size of a circuit, by its place in the file.
 #[derive(Clone, Copy, PartialEq, Eq, Debug)]
 pub enum Size {
@@ -19,4 +22,32 @@ pub enum Refusal {
     Wire(u16),
     // This gate, Init, touches an input.
     Start(u16),
+}
+
+impl Refusal {
+    // A method, since `as` takes no enum that holds values.
+    pub fn number(self) -> u8
+        ensures { result ≡ number_of self }
+    {
+        match self {
+            Refusal::Length(_) => 2,
+            Refusal::Size(_) => 3,
+            Refusal::Width(_) => 4,
+            Refusal::Wire(_) => 5,
+            Refusal::Start(_) => 6,
+        }
+    }
+
+    // What a refusal holds is its place.
+    pub fn place(self) -> usize
+        ensures { result ≡ place_of self }
+    {
+        match self {
+            Refusal::Length(bytes) => bytes,
+            Refusal::Size(size) => size as usize,
+            Refusal::Width(variables) => variables as usize,
+            Refusal::Wire(gate) => gate as usize,
+            Refusal::Start(gate) => gate as usize,
+        }
+    }
 }

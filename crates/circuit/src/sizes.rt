@@ -15,9 +15,11 @@ impl fmt::Display for Sizes {
     ghost output = { λ z. Some (sizes_text z) };
 
     fn fmt<W: fmt::Write>(&self, f: &mut fmt::Formatter<W>) -> fmt::Result {
-        let n = self.registers;
-        let m = self.inputs;
-        let k = self.gates;
-        write!(f, "registers {n} inputs {m} gates {k}")
+        let Sizes {
+            registers,
+            inputs,
+            gates,
+        } = self;
+        write!(f, "registers {registers} inputs {inputs} gates {gates}")
     }
 }

@@ -17,13 +17,13 @@ use Rattle.claim.proofs.Trees as trees
 
 -- a name is at fault where no opener can be
 named_kind : {z : Sizes} {ts : List Tok} {p : ℕ} {k : Kind} {f : Fault} (q : ℕ) → AtFault z ts p k f → f ≡ Name q → Opens k → ⊥
-named_kind q (no_claim v n) e o = let z : ◌≡◌ {A = ℕ} 0 1 = cc in omega arith
+named_kind q (no_claim v n) e o = cc
 named_kind q (no_such h) e o = elim o [ ]
-named_kind q (too_deep n o h l) e w = let z : ◌≡◌ {A = ℕ} 0 1 = cc in omega arith
+named_kind q (too_deep n o h l) e w = cc
 
 opening_kind : {z : Sizes} {ts : List Tok} {p : ℕ} {k : Kind} {f : Fault} (q : ℕ) → AtFault z ts p k f → f ≡ Deep q → Opens k
-opening_kind q (no_claim v n) e = let z : ◌≡◌ {A = ℕ} 0 1 = cc in absurd (omega arith)
-opening_kind q (no_such h) e = let z : ◌≡◌ {A = ℕ} 0 1 = cc in absurd (omega arith)
+opening_kind q (no_claim v n) e = cc
+opening_kind q (no_such h) e = cc
 opening_kind q (too_deep n o h l) e = o
 
 module _ {z : Sizes} {xs : List Tok} (q : ℕ) (rise : Rising q xs) where

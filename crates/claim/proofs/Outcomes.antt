@@ -19,16 +19,16 @@ fault_place (too_deep n o h l) = refl
 
 pub unfit : {z : Sizes} {ts : List Tok} {p : ℕ} {k : Kind} {f : Fault} (q : ℕ) → AtFault z ts p k f → f ≡ Claim q → Viable (ts ++ tok p k ∷ []) → ⊥
 unfit q (no_claim v n) e = n
-unfit q (no_such h) e = let z : ◌≡◌ {A = ℕ} 0 1 = cc in absurd (omega arith)
-unfit q (too_deep n o h l) e = let z : ◌≡◌ {A = ℕ} 0 1 = cc in absurd (omega arith)
+unfit q (no_such h) e = cc
+unfit q (too_deep n o h l) e = cc
 
 -- an opener leads to a state with one more open
 open_after : {k : Kind} (ts : List Tok) (p : ℕ) (s u : State) → Opens k → run (Some start) ts ≡ Some s → next s k ≡ Some u → Open (ts ++ tok p k ∷ []) (deep s + 1)
 open_after ts p (want n r) u opens_not e h = subst (Open (ts ++ tok p bang ∷ [])) (omega arith) (open_at (ts ++ tok p bang ∷ []) (n + 1) r (run_append (Some start) ts (tok p bang ∷ []) ∙ ap (λ o. run o (tok p bang ∷ [])) e))
 open_after ts p (want n r) u opens_paren e h = subst (Open (ts ++ tok p lparen ∷ [])) (omega arith) (open_at (ts ++ tok p lparen ∷ []) 0 (n ∷ r) (run_append (Some start) ts (tok p lparen ∷ []) ∙ ap (λ o. run o (tok p lparen ∷ [])) e))
-open_after ts p (have r) u opens_not e h = let z : ◌≡◌ {A = ℕ} 0 1 = cc in absurd (omega arith)
-open_after ts p (have r) u opens_paren e h = let z : ◌≡◌ {A = ℕ} 0 1 = cc in absurd (omega arith)
-open_after ts p over u o e h = let z : ◌≡◌ {A = ℕ} 0 1 = cc in absurd (omega arith)
+open_after ts p (have r) u opens_not e h = cc
+open_after ts p (have r) u opens_paren e h = cc
+open_after ts p over u o e h = cc
 
 module _ (z : Sizes) where
   moved : (ts : List Tok) (s : State) (x : Tok) → scan z (Ok start) ts ≡ Ok s → run (Some start) (ts ++ x ∷ []) ≡ next s x.kind
@@ -76,11 +76,11 @@ module _ (z : Sizes) where
 
   -- a text that the machine goes through ends it
   ended_over : (p : ℕ) (r : Result State Fault) (u : State) → after z r (tok p end) ≡ Ok u → u ≡ over
-  ended_over p (Err f) u e = let z : ◌≡◌ {A = ℕ} 0 1 = cc in absurd (omega arith)
-  ended_over p (Ok (want n r)) u e = let z : ◌≡◌ {A = ℕ} 0 1 = cc in absurd (omega arith)
+  ended_over p (Err f) u e = cc
+  ended_over p (Ok (want n r)) u e = cc
   ended_over p (Ok (have [])) u e = cc
-  ended_over p (Ok (have (n ∷ r))) u e = let z : ◌≡◌ {A = ℕ} 0 1 = cc in absurd (omega arith)
-  ended_over p (Ok over) u e = let z : ◌≡◌ {A = ℕ} 0 1 = cc in absurd (omega arith)
+  ended_over p (Ok (have (n ∷ r))) u e = cc
+  ended_over p (Ok over) u e = cc
 
   begun_over : (c : Class) (p : ℕ) (ds : List ℕ) (xs : List Tok) (u : State) → ((r : Result State Fault) → scan z r xs ≡ Ok u → u ≡ over) → (r : Result State Fault) → scan z r (begun c p ds xs) ≡ Ok u → u ≡ over
   begun_over space p ds xs u h r e = h r e
@@ -103,6 +103,6 @@ module _ (z : Sizes) where
       let t = stands (tokens 0 0 bs) over (scan_run z (Ok start) (tokens 0 0 bs) over (e ∙ ap Ok o)) in
       (t.0, record { short = short; derived = t.1; sound = sound (tokens 0 0 bs) u e })
   outcome bs short (Err f) e =
-      ⊎_elim (λ g. let z : ◌≡◌ {A = ℕ} 0 1 = cc in absurd (omega arith))
+      ⊎_elim (λ g. cc)
       (λ h. at_fault short (first h.ts h.from h.before (tokens 0 0 bs) h.us h.x f 0 (rising 0 0 bs) h.is h.stops))
       (halted z (Ok start) (tokens 0 0 bs) f e)

@@ -123,7 +123,7 @@ pub not_viable : (ts : List Tok) → run (Some start) ts ≡ None → Viable ts 
 not_viable ts e v =
     let all = run_append (Some start) ts v.0 ∙ ap (λ o. run o v.0) e ∙ run_none v.0 in
     let whole = comes_over v.2 in
-    let z : ◌≡◌ {A = ℕ} 0 1 = cc in omega arith
+    cc
 
 -- no fewer are open than the state says
 abbrev AtMost : ℕ → Option State → Type 0

@@ -1,6 +1,6 @@
 -- The machine over many tokens.
-use Rattle.std.proofs.Common.{◌≡◌, ℕ, ◌+◌, ◌<◌, ◌≤◌, Bool, true, false, cond, ltb, ◌⊎◌, List, [], ◌∷◌, ◌++◌, Some, None, Ok, Err, Option, Result, sym, refl, ap, ◌∙◌, subst, inl, inr, ⊎_elim, arith}
-use Rattle.std.proofs.lemmas.Bool.{ltb-true, ltb-false}
+use Rattle.std.proofs.Common.{◌≡◌, ℕ, ◌+◌, ◌<◌, ◌≤◌, cond, ltb, ◌⊎◌, List, [], ◌∷◌, ◌++◌, Some, None, Ok, Err, Option, Result, sym, refl, ap, ◌∙◌, subst, inl, inr, ⊎_elim, arith}
+use Rattle.std.proofs.lemmas.Bool.Decides.{nat_tests}
 use Rattle.claim.specs.declared.code.Sort.{Sort}
 use Rattle.circuit.specs.declared.sizes.Sizes.{Sizes}
 use Rattle.claim.specs.declared.fault.Fault.{Fault}
@@ -45,11 +45,7 @@ pub comes_over : {xs : List Tok} {t : Tree} → Says xs t → run (Some start) x
 comes_over (a_text {ts = ts} p d) = run_append (Some start) ts (tok p end ∷ []) ∙ ap (λ o. run o (tok p end ∷ [])) (comes d 0 [])
 
 below : (a b : ℕ) (f : Fault) → cond (ltb a b) None (Some f) ≡ None → a < b
-below a b f e = by (ltb a b) refl e
-  where
-    by : (t : Bool) → ltb a b ≡ t → cond t None (Some f) ≡ None → a < b
-    by true h e = ltb-true a b h
-    by false h e = let z : ◌≡◌ {A = ℕ} 0 1 = cc in absurd (omega arith)
+below a b f e = grind (arith, nat_tests)
 
 pub known : (z : Sizes) (s : State) (p : ℕ) (l : Sort) (ds : List ℕ) → flaw z s (name l ds) p ≡ None → value ds < limit z l
 known z s p l ds e = below (value ds) (limit z l) (Name p) e
@@ -67,7 +63,7 @@ module _ (z : Sizes) where
   unjudged : (m : Option State) (f : Option Fault) (p : ℕ) (xs : List Tok) (u : State) → run (reached (judged m f p)) xs ≡ Some u → run m xs ≡ Some u
   unjudged None f p xs u e = e
   unjudged (Some s) None p xs u e = e
-  unjudged (Some s) (Some f) p xs u e = let n = run_none xs in let z : ◌≡◌ {A = ℕ} 0 1 = cc in absurd (omega arith)
+  unjudged (Some s) (Some f) p xs u e = let n = run_none xs in cc
 
   pub scan_run : (r : Result State Fault) (xs : List Tok) (u : State) → scan z r xs ≡ Ok u → run (reached r) xs ≡ Some u
   scan_run r [] u e = ap reached e
@@ -80,12 +76,12 @@ module _ (z : Sizes) where
 
   was_ok : (r : Result State Fault) (xs : List Tok) (u : State) → scan z r xs ≡ Ok u → (s : State) × (r ≡ Ok s)
   was_ok (Ok s) xs u e = (s, refl)
-  was_ok (Err f) xs u e = let n = scan_err f xs in let z : ◌≡◌ {A = ℕ} 0 1 = cc in absurd (omega arith)
+  was_ok (Err f) xs u e = let n = scan_err f xs in cc
 
   judged_ok : (m : Option State) (g : Option Fault) (p : ℕ) (s : State) → judged m g p ≡ Ok s → (m ≡ Some s) × (g ≡ None)
-  judged_ok None g p s e = let z : ◌≡◌ {A = ℕ} 0 1 = cc in absurd (omega arith)
+  judged_ok None g p s e = cc
   judged_ok (Some m) None p s e = (cc, refl)
-  judged_ok (Some m) (Some g) p s e = let z : ◌≡◌ {A = ℕ} 0 1 = cc in absurd (omega arith)
+  judged_ok (Some m) (Some g) p s e = cc
 
   -- a token that was passed
   pub record Passed (ts : List Tok) (x : Tok) : Type 0 where
@@ -103,7 +99,7 @@ module _ (z : Sizes) where
           let w = was_ok (step z s x) us u k in
           let j = judged_ok (next s x.kind) (flaw z s x.kind x.place) x.place w.0 w.1 in
           record { from = s; to = w.0; before = h; moves = j.0; sound = j.1 }
-      by (Err f) h k = let n = scan_err f us in let z : ◌≡◌ {A = ℕ} 0 1 = cc in absurd (omega arith)
+      by (Err f) h k = let n = scan_err f us in cc
 
   -- why a token is no claim's, or at fault otherwise
   pub data Flawed (s : State) (p : ℕ) : Kind → Fault → Type 0 where
@@ -115,39 +111,28 @@ module _ (z : Sizes) where
     flawed : {k : Kind} {f : Fault} (u : State) → next s k ≡ Some u → Flawed s p k f → Why s p k f
 
   opening : {k : Kind} (s : State) (p : ℕ) (f : Fault) → Opens k → cond (ltb (deep s) 16) None (Some (Deep p)) ≡ Some f → Flawed s p k f
-  opening {k} s p f o e = by (ltb (deep s) 16) refl e
-    where
-      by : (b : Bool) → ltb (deep s) 16 ≡ b → cond b None (Some (Deep p)) ≡ Some f → Flawed s p k f
-      by true h e = let z : ◌≡◌ {A = ℕ} 0 1 = cc in absurd (omega arith)
-      by false h e = let g : Deep p ≡ f = cc in subst (Flawed s p k) g (too_many o (ltb-false (deep s) 16 h))
+  opening {k} s p f o e = let g : (Deep p ≡ f) × (16 ≤ deep s) = grind (arith, nat_tests) in subst (Flawed s p k) g.0 (too_many o g.1)
 
   naming : (s : State) (p : ℕ) (f : Fault) (l : Sort) (ds : List ℕ) → cond (ltb (value ds) (limit z l)) None (Some (Name p)) ≡ Some f → Flawed s p (name l ds) f
-  naming s p f l ds e = by (ltb (value ds) (limit z l)) refl e
-    where
-      by : (b : Bool) → ltb (value ds) (limit z l) ≡ b → cond b None (Some (Name p)) ≡ Some f → Flawed s p (name l ds) f
-      by true h e = let z : ◌≡◌ {A = ℕ} 0 1 = cc in absurd (omega arith)
-      by false h e = let g : Name p ≡ f = cc in subst (Flawed s p (name l ds)) g (unknown (ltb-false (value ds) (limit z l) h))
-
-  never : {A : Type 0} (f : Fault) → None ≡ Some f → A
-  never f e = let z : ◌≡◌ {A = ℕ} 0 1 = cc in absurd (omega arith)
+  naming s p f l ds e = let g : (Name p ≡ f) × (limit z l ≤ value ds) = grind (arith, nat_tests) in subst (Flawed s p (name l ds)) g.0 (unknown g.1)
 
   flaws : (s : State) (p : ℕ) (k : Kind) (f : Fault) → flaw z s k p ≡ Some f → Flawed s p k f
   flaws s p bang f e = opening s p f opens_not e
-  flaws s p amp f e = never f e
-  flaws s p bar f e = never f e
+  flaws s p amp f e = cc
+  flaws s p bar f e = cc
   flaws s p lparen f e = opening s p f opens_paren e
-  flaws s p rparen f e = never f e
-  flaws s p (constant b) f e = never f e
+  flaws s p rparen f e = cc
+  flaws s p (constant b) f e = cc
   flaws s p (name l ds) f e = naming s p f l ds e
-  flaws s p wrong f e = never f e
-  flaws s p end f e = never f e
+  flaws s p wrong f e = cc
+  flaws s p end f e = cc
 
   pub why : (s : State) (x : Tok) (f : Fault) → step z s x ≡ Err f → Why s x.place x.kind f
   why s x f e = by (next s x.kind) (flaw z s x.kind x.place) refl refl e
     where
       by : (m : Option State) (g : Option Fault) → next s x.kind ≡ m → flaw z s x.kind x.place ≡ g → judged m g x.place ≡ Err f → Why s x.place x.kind f
       by None g h k e = let c : Claim x.place ≡ f = cc in subst (Why s x.place x.kind) c (stuck h)
-      by (Some u) None h k e = let z : ◌≡◌ {A = ℕ} 0 1 = cc in absurd (omega arith)
+      by (Some u) None h k e = cc
       by (Some u) (Some g) h k e = flawed u h (flaws s x.place x.kind f (cc))
 
   -- a passed opener leaves at most 16 open, and a passed name is known

@@ -29,11 +29,11 @@ module _ {A : Type 0} (o : Ops A) where
   pub enough : (p : ℕ) (a : Act) (s : List A) (cs : List Code) (u : List A) → exec o cs (apply o p a s) ≡ stack u → arity a ≤ length s
   enough p (Constant b) s cs u e = omega arith
   enough p (Name k n) s cs u e = omega arith
-  enough p Not [] cs u e = let f = exec_short cs in let z : ◌≡◌ {A = ℕ} 0 1 = cc in absurd (omega arith)
+  enough p Not [] cs u e = let f = exec_short cs in cc
   enough p Not (x ∷ s) cs u e = omega arith
-  enough p And [] cs u e = let f = exec_short cs in let z : ◌≡◌ {A = ℕ} 0 1 = cc in absurd (omega arith)
-  enough p And (x ∷ []) cs u e = let f = exec_short cs in let z : ◌≡◌ {A = ℕ} 0 1 = cc in absurd (omega arith)
+  enough p And [] cs u e = let f = exec_short cs in cc
+  enough p And (x ∷ []) cs u e = let f = exec_short cs in cc
   enough p And (x ∷ y ∷ s) cs u e = omega arith
-  enough p Or [] cs u e = let f = exec_short cs in let z : ◌≡◌ {A = ℕ} 0 1 = cc in absurd (omega arith)
-  enough p Or (x ∷ []) cs u e = let f = exec_short cs in let z : ◌≡◌ {A = ℕ} 0 1 = cc in absurd (omega arith)
+  enough p Or [] cs u e = let f = exec_short cs in cc
+  enough p Or (x ∷ []) cs u e = let f = exec_short cs in cc
   enough p Or (x ∷ y ∷ s) cs u e = omega arith

@@ -1,6 +1,6 @@
 -- How what one reader read joins what another did.
-use Rattle.std.proofs.Common.{◌≡◌, ℕ, ◌+◌, ◌-◌, ◌*◌, ◌<◌, ◌≤◌, Bool, cond, List, [], ◌∷◌, ◌++◌, length, take, Some, None, Ok, Err, Result, sym, refl, ap, ◌∙◌, subst, append_assoc, append-nil, arith, length-append, Bor, MatchResult}
-use Rattle.std.proofs.lemmas.Bool.{lt-ltb, le-ltb}
+use Rattle.std.proofs.Common.{◌≡◌, ℕ, ◌+◌, ◌-◌, ◌*◌, ◌<◌, ◌≤◌, Bool, List, [], ◌∷◌, ◌++◌, length, None, Ok, Err, Result, sym, refl, ap, ◌∙◌, subst, append_assoc, append-nil, arith, length-append, Bor, MatchResult, IsErrAnd}
+use Rattle.std.proofs.lemmas.Bool.Decides.{nat_tests}
 use Rattle.claim.specs.declared.code.Sort.{Sort}
 use Rattle.claim.specs.declared.code.Act.TheVariants as act
 use Rattle.claim.specs.declared.code.Code.{Code}
@@ -11,14 +11,19 @@ use Rattle.claim.specs.declared.lexer.Token.{Token}
 use Rattle.claim.specs.declared.lexer.Token.TheVariants.{Not, And, Or, Open, Close, Constant, Name, Wrong, End}
 use Rattle.claim.specs.declared.reader.Reader.{Reader}
 use Rattle.claim.specs.Tokens.{Kind, bang, amp, bar, lparen, rparen, constant, name, Tok, tok}
-use Rattle.claim.specs.Seen.{kind_of, left, Placed}
+use Rattle.claim.specs.Seen.{kind_of, left}
 use Rattle.claim.specs.Grammar.{Level, claim, term, factor, Tree, const, named, neg, conj, disj, Derives, one_term, more_terms, one_factor, more_factors, a_not, in_parens, a_constant, a_name, value, code, post, limit}
 use Rattle.claim.specs.Machine.{State, want, have, depths, next, flaw, judged, step, scan}
-use Rattle.claim.specs.Reading.{ahead, Ready, Reach, Bare, Sofar, Taken, Stopped}
+use Rattle.claim.specs.Reading.{ahead, Reach, Bare, Sofar, Taken, Stopped}
 use Rattle.claim.proofs.Runs.{scan_append}
 
+-- what a `?` hands on
+pub handed_on : {l : Level} {d : ℕ} {a b : Reader} {e : Fault} (r : Result (Unit {0}) Fault) → IsErrAnd r (λ f. f ≡ e) → Stopped l d a b e → MatchResult r (λ _. Taken l d a b) (λ f. Stopped l d a b f)
+handed_on (Ok x) h s = absurd h
+handed_on {l} {d} {a} {b} (Err f) h s = subst (Stopped l d a b) (sym h) s
+
 pub reach_none : {a : Reader} → Reach a a [] []
-reach_none {a} = record { text = refl; sizes = refl; passed = refl; far = omega arith; placed = λ h. h; wrote = sym (append-nil (take a.count a.codes)); count = omega arith; room = refl }
+reach_none {a} = record { text = refl; sizes = refl; passed = refl; far = omega arith; wrote = sym (append-nil a.codes.items) }
 
 pub reach_trans : {a b c : Reader} {ts us : List Tok} {cs ds : List Code} → Reach a b ts cs → Reach b c us ds → Reach a c (ts ++ us) (cs ++ ds)
 reach_trans {a} {b} {c} {ts} {us} {cs} {ds} r s = record {
@@ -26,18 +31,7 @@ reach_trans {a} {b} {c} {ts} {us} {cs} {ds} r s = record {
   sizes = s.sizes ∙ r.sizes;
   passed = r.passed ∙ ap (λ l. ts ++ l) (subst (λ t. left t b.ahead ≡ us ++ left t c.ahead) r.text s.passed) ∙ sym (append_assoc ts us (left a.text.now c.ahead));
   far = omega (arith, r.far, s.far, length-append ts us);
-  placed = λ h. subst (λ t. Placed t b.ahead → Placed t c.ahead) r.text s.placed (r.placed h);
-  wrote = s.wrote ∙ ap (λ l. l ++ ds) r.wrote ∙ append_assoc (take a.count a.codes) cs ds;
-  count = omega (arith, r.count, s.count, length-append cs ds);
-  room = s.room ∙ r.room;
-}
-
-pub ready_after : {a b : Reader} {ts : List Tok} {cs : List Code} → Ready a → Reach a b ts cs → length cs ≤ length ts → Ready b
-ready_after {a} {b} h r few = record {
-  placed = subst (λ t. Placed t b.ahead) (sym r.text) (r.placed h.placed);
-  short = omega (arith, ap length r.text, h.short);
-  fits = omega (arith, h.fits, r.count, r.far);
-  room = r.room ∙ h.room;
+  wrote = s.wrote ∙ ap (λ l. l ++ ds) r.wrote ∙ append_assoc a.codes.items cs ds;
 }
 
 -- no more codes than tokens
@@ -51,16 +45,13 @@ post_short (in_parens q d) = simp length-append (omega (arith, post_short d))
 post_short a_constant = omega arith
 post_short a_name = omega arith
 
-pub ready_sofar : {l : Level} {d : ℕ} {a b : Reader} → Ready a → Sofar l d a b → Ready b
-ready_sofar h s = ready_after h s.reach (post_short s.derived)
-
 -- the bytes left fall with each token
-pub fewer : {a b : Reader} {ts : List Tok} {cs : List Code} → Reach a b ts cs → Ready b → 0 < length ts → 3 * (length b.text.now - b.ahead.place) + 3 ≤ 3 * (length a.text.now - a.ahead.place)
-fewer r h some = omega (arith, h.placed.within, ap length r.text, r.far)
+pub fewer : {a b : Reader} {ts : List Tok} {cs : List Code} → Reach a b ts cs → 0 < length ts → 3 * (length b.text.now - b.ahead.place) + 3 ≤ 3 * (length a.text.now - a.ahead.place)
+fewer {b = b} r some = omega (arith, b.placed.within, ap length r.text, r.far)
 
 -- a token was passed for the code to write
-pub room_left : {a b : Reader} {ts : List Tok} {cs : List Code} → Ready a → Reach a b ts cs → length cs < length ts → (b.count < 512) × ((length b.codes ≡ 512) × (a.ahead.place < 65536))
-room_left h r few = let g = ready_after h r (omega arith) in (omega (arith, g.placed.within, g.short, h.fits, r.count, r.far), (g.room, omega (arith, h.placed.within, h.short)))
+pub room_left : {a b : Reader} {ts : List Tok} {cs : List Code} → Reach a b ts cs → length cs < length ts → length b.codes.items < b.ahead.place
+room_left {a} {cs = cs} r few = omega (arith, a.fits, simp length-append at (ap length r.wrote), r.far)
 
 -- the token that was passed is known
 pub by_token : {a b : Reader} {t : Token} {cs : List Code} → Reach a b (ahead a ∷ []) cs → a.ahead.token ≡ t → Reach a b (tok a.ahead.place (kind_of t) ∷ []) cs
@@ -127,14 +118,10 @@ module _ {d p : ℕ} {a b c e : Reader} {f : Fault} where
 
 -- the check of the depth, passed or not
 open_step : (z : Sizes) (n p : ℕ) (o : List ℕ) → n + depths o < 16 → (step z (want n o) (tok p bang) ≡ Ok (want (n + 1) o)) × (step z (want n o) (tok p lparen) ≡ Ok (want 0 (n ∷ o)))
-open_step z n p o low =
-    let e = lt-ltb (n + depths o) 16 low in
-    (ap (λ b. judged (Some (want (n + 1) o)) (cond b None (Some (fault.Deep p))) p) e, ap (λ b. judged (Some (want 0 (n ∷ o))) (cond b None (Some (fault.Deep p))) p) e)
+open_step z n p o low = (grind (arith, nat_tests), grind (arith, nat_tests))
 
 deep_step : (z : Sizes) (n p : ℕ) (o : List ℕ) → 16 ≤ n + depths o → (step z (want n o) (tok p bang) ≡ Err (fault.Deep p)) × (step z (want n o) (tok p lparen) ≡ Err (fault.Deep p))
-deep_step z n p o high =
-    let e = le-ltb (n + depths o) 16 high in
-    (ap (λ b. judged (Some (want (n + 1) o)) (cond b None (Some (fault.Deep p))) p) e, ap (λ b. judged (Some (want 0 (n ∷ o))) (cond b None (Some (fault.Deep p))) p) e)
+deep_step z n p o high = (grind (arith, nat_tests), grind (arith, nat_tests))
 
 pub stuck_step : (z : Sizes) (s : State) (x : Tok) → next s x.kind ≡ None → step z s x ≡ Err (fault.Claim x.place)
 stuck_step z s x e = ap (λ m. judged m (flaw z s x.kind x.place) x.place) e
@@ -234,7 +221,7 @@ module _ {d : ℕ} (a : Reader) where
   no_factor m p c s = stop_here (λ n o x. stuck_step a.sizes (want n o) (ahead a) (refuses_want n o a.ahead.token m p c s))
 
   pub no_name : (s : Sort) (ds : List ℕ) → kind_of a.ahead.token ≡ name s ds → limit a.sizes s ≤ value ds → Stopped factor d a a (fault.Name a.ahead.place)
-  no_name s ds e far = at_kind e (λ n o x. ap (λ b. judged (Some (have o)) (cond b None (Some (fault.Name a.ahead.place))) a.ahead.place) (le-ltb (value ds) (limit a.sizes s) far))
+  no_name s ds e far = at_kind e (λ n o x. grind (arith, nat_tests))
 
 -- atoms
 pub read_constant : {d p : ℕ} {b : Bool} {a c : Reader} → Reach a c (tok p (constant b) ∷ []) (code (act.Constant b) p ∷ []) → Taken factor d a c
@@ -247,7 +234,7 @@ read_name {d} {a} {c} s ds n e is low r = record {
     tree = named a.ahead.place s (value ds);
     reach = subst (λ k. Reach a c (tok a.ahead.place k ∷ []) (code (act.Name s (value ds)) a.ahead.place ∷ [])) e (subst (λ m. Reach a c (ahead a ∷ []) (code (act.Name s m) a.ahead.place ∷ [])) is r);
     derived = a_name;
-    path = λ m o x y. ap (λ b. judged (Some (have o)) (cond b None (Some (fault.Name a.ahead.place))) a.ahead.place) (lt-ltb (value ds) (limit a.sizes s) (omega arith));
+    path = λ m o x y. grind (arith, nat_tests);
   };
   follow = tt;
 }

@@ -1,5 +1,5 @@
 -- From the readers' promises to the text.
-use Rattle.std.proofs.Common.{◌≡◌, ℕ, ◌<◌, ◌≤◌, cond, List, [], ◌∷◌, ◌++◌, length, take, drop, Ok, sym, refl, ap, ◌∙◌, subst, ⊎_elim, append_assoc, arith}
+use Rattle.std.proofs.Common.{◌≡◌, ℕ, ◌<◌, ◌≤◌, cond, List, [], ◌∷◌, ◌++◌, length, drop, Ok, sym, refl, ap, ◌∙◌, subst, ⊎_elim, append_assoc, arith}
 use Rattle.std.proofs.lemmas.Bool.{cases_lt, le-ltb}
 use Rattle.claim.specs.declared.code.Act.{Act}
 use Rattle.claim.specs.declared.code.Act.TheVariants.{Constant, Name, Not, And, Or}
@@ -12,16 +12,16 @@ use Rattle.claim.specs.declared.fault.Fault.TheVariants as fault
 use Rattle.claim.specs.declared.lexer.Token.TheVariants.{End}
 use Rattle.claim.specs.declared.reader.Reader.{Reader}
 use Rattle.claim.specs.Tokens.{bang, amp, bar, lparen, rparen, name, end, Tok, tok, tokens}
-use Rattle.claim.specs.Seen.{kind_of, left, Lexed}
+use Rattle.claim.specs.Seen.{kind_of, left}
 use Rattle.claim.specs.Grammar.{Level, claim, Tree, Derives, one_term, more_terms, one_factor, more_factors, a_not, in_parens, a_constant, a_name, Says, a_text, value, post, limit, weight, operators, Known}
-use Rattle.claim.specs.Faults.{no_such, Read, Refused, at_fault}
+use Rattle.claim.specs.Faults.{no_such, Fails, Read, Refused, at_fault}
 use Rattle.claim.specs.Machine.{want, have, over, scan}
-use Rattle.claim.specs.Reading.{ahead, Sofar, Taken, Stopped}
+use Rattle.claim.specs.Reading.{ahead, Begun, Reach, Sofar, Taken, Stopped}
 use Rattle.claim.specs.Result.{used, Reads}
 use Rattle.claim.proofs.Places.{rising}
 use Rattle.claim.proofs.Runs.{scan_append}
 use Rattle.claim.proofs.Outcomes.{sound, first}
-use Rattle.claim.proofs.Steps.{post_short, refuses_have, stuck_step}
+use Rattle.claim.proofs.Steps.{refuses_have, stuck_step}
 
 few_operators : (cs : List Code) → operators cs ≤ length cs
 few_operators [] = omega arith
@@ -61,39 +61,42 @@ known_text (a_text {ts = ts} p d) h = known_tree d (names_left ts (tok p end ∷
 pub known_read : {bs : List ℕ} {z : Sizes} {t : Tree} → Read bs z t → Known z t
 known_read {z = z} r = known_text r.derived (λ us p s ds vs e. ⊎_elim (λ lt. lt) (λ ge. absurd (r.sound (fault.Name p) (record { before = us; place = p; kind = name s ds; after = vs; is = e; why = no_such ge }))) (cases_lt (value ds) (limit z s)))
 
-module _ (a b : Reader) (start : Lexed a.text.now 0 a.ahead) (short : length a.text.now ≤ 512) where
-  pub refused : {f : Fault} → Stopped claim 0 a b f → Refused a.text.now a.sizes f
+module _ {bs : List ℕ} {z : Sizes} (a b : Reader) (begun : Begun bs z a) where
+  short : length bs ≤ 512
+  short = omega (arith, a.short, ap length begun.text)
+
+  passed : {ts : List Tok} {cs : List Code} → Reach a b ts cs → tokens 0 0 bs ≡ ts ++ left bs b.ahead
+  passed {ts} r = begun.first ∙ subst (λ t. left t a.ahead ≡ ts ++ left t b.ahead) begun.text r.passed
+
+  pub refused : {f : Fault} → Stopped claim 0 a b f → Refused bs z f
   refused {f} s =
       let h = s.halts 0 [] refl refl in
-      at_fault short (first a.sizes s.ts h.0 h.1 (tokens 0 0 a.text.now) _ (ahead b) f 0 (rising 0 0 a.text.now) (start.first ∙ s.reach.passed) h.2)
+      subst (λ y. Refused bs y f) begun.sizes (at_fault short (first a.sizes s.ts h.0 h.1 (tokens 0 0 bs) _ (ahead b) f 0 (rising 0 0 bs) (passed s.reach) h.2))
 
-  pub refused_after : Taken claim 0 a b → (b.ahead.token ≡ End → ⊥) → Refused a.text.now a.sizes (fault.Claim b.ahead.place)
+  pub refused_after : Taken claim 0 a b → (b.ahead.token ≡ End → ⊥) → Refused bs z (fault.Claim b.ahead.place)
   refused_after h more =
       let s = h.sofar in
-      at_fault short (first a.sizes s.ts (have []) (s.path 0 [] refl refl) (tokens 0 0 a.text.now) _ (ahead b) _ 0 (rising 0 0 a.text.now) (start.first ∙ s.reach.passed) (stuck_step a.sizes (have []) (ahead b) (refuses_have [] b.ahead.token h.follow.0 h.follow.1 more)))
+      subst (λ y. Refused bs y (fault.Claim b.ahead.place)) begun.sizes (at_fault short (first a.sizes s.ts (have []) (s.path 0 [] refl refl) (tokens 0 0 bs) _ (ahead b) _ 0 (rising 0 0 bs) (passed s.reach) (stuck_step a.sizes (have []) (ahead b) (refuses_have [] b.ahead.token h.follow.0 h.follow.1 more))))
 
-  pub read : (s : Sofar claim 0 a b) → b.ahead.token ≡ End → Read a.text.now a.sizes s.tree
-  read s is_end =
-      let p = b.ahead.place in
-      let after : left a.text.now b.ahead ≡ tok p end ∷ [] =
-      (λ i. tok p (kind_of (is_end i)) ∷ cond (le-ltb p (length a.text.now) ((s.reach.placed start.placed).last is_end) i) (tokens 0 b.ahead.end (drop b.ahead.end a.text.now)) []) in
-      let all = start.first ∙ s.reach.passed ∙ ap (λ l. s.ts ++ l) after in
-      record {
-        short = short;
-        derived = subst (λ l. Says l s.tree) (sym all) (a_text p s.derived);
-        sound = sound a.sizes (tokens 0 0 a.text.now) over (ap (scan a.sizes (Ok (want 0 []))) all ∙ scan_append a.sizes (Ok (want 0 [])) s.ts (tok p end ∷ []) ∙ ap (λ r. scan a.sizes r (tok p end ∷ [])) (s.path 0 [] refl refl));
-      }
+  module _ (s : Sofar claim 0 a b) where
+    read : b.ahead.token ≡ End → Read bs z s.tree
+    read is_end =
+        let p = b.ahead.place in
+        let past : length bs ≤ p = omega (arith, b.placed.last is_end, ap length s.reach.text, ap length begun.text) in
+        let after : left bs b.ahead ≡ tok p end ∷ [] = (λ i. tok p (kind_of (is_end i)) ∷ cond (le-ltb p (length bs) past i) (tokens 0 b.ahead.end (drop b.ahead.end bs)) []) in
+        let all = passed s.reach ∙ ap (λ l. s.ts ++ l) after in
+        record {
+          short = short;
+          derived = subst (λ l. Says l s.tree) (sym all) (a_text p s.derived);
+          sound = subst (λ y. (f : Fault) → Fails y (tokens 0 0 bs) f → ⊥) begun.sizes (sound a.sizes (tokens 0 0 bs) over (ap (scan a.sizes (Ok (want 0 []))) all ∙ scan_append a.sizes (Ok (want 0 [])) s.ts (tok p end ∷ []) ∙ ap (λ r. scan a.sizes r (tok p end ∷ [])) (s.path 0 [] refl refl)));
+        }
 
-  -- the codes of what was read
-  module _ (s : Sofar claim 0 a b) (none : a.count ≡ 0) where
-    pub written : take b.count b.codes ≡ post s.tree
-    written = s.reach.wrote ∙ ap (λ n. take n a.codes ++ post s.tree) none
+    -- the codes of what was read
+    pub written : b.codes.items ≡ post s.tree
+    written = s.reach.wrote ∙ ap (λ l. l ++ post s.tree) begun.none
 
-    pub few : length (post s.tree) ≤ length a.text.now
-    few = omega (arith, s.reach.far, post_short s.derived, (s.reach.placed start.placed).within)
-
-    pub reads : (c : Codes) → used c ≡ take b.count b.codes → b.ahead.token ≡ End → Reads a.text.now a.sizes c
+    pub reads : (c : Codes) → used c ≡ b.codes.items → b.ahead.token ≡ End → Reads bs z c
     reads c e is_end =
-        let r = read s is_end in
-        let codes = e ∙ written in
-        record { tree = s.tree; read = r; known = known_read r; codes = codes; few = omega (arith, few, ap length codes); few_operators = omega (arith, few, ap length codes, few_operators (used c)) }
+        let r = read is_end in
+        let few : length (used c) ≤ length bs = omega (arith, ap length e, b.fits, b.placed.within, ap length s.reach.text, ap length begun.text) in
+        record { tree = s.tree; read = r; known = known_read r; codes = e ∙ written; few = few; few_operators = omega (arith, few, few_operators (used c)) }

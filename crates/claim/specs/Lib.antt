@@ -5,7 +5,6 @@ pub mod Exact
 pub mod Examples
 pub mod Result
 pub mod Truth
-pub mod Items
 pub mod Seen
 pub mod Machine
 pub mod Reading

@@ -1,12 +1,13 @@
 -- What the readers promise one another.
-use Rattle.std.specs.Prelude.{◌≡◌, ℕ, ◌+◌, ◌≤◌, List, ◌++◌, length, take, Ok, ◌≢◌}
+use Rattle.std.specs.Prelude.{◌≡◌, ℕ, ◌+◌, ◌≤◌, List, [], ◌++◌, length, Ok, ◌≢◌}
+use Rattle.circuit.specs.declared.sizes.Sizes.{Sizes}
 use Rattle.claim.specs.declared.code.Code.{Code}
 use Rattle.claim.specs.declared.fault.Fault.{Fault}
 use Rattle.claim.specs.declared.lexer.Token.{Token}
 use Rattle.claim.specs.declared.lexer.Token.TheVariants.{And, Or}
 use Rattle.claim.specs.declared.reader.Reader.{Reader}
-use Rattle.claim.specs.Tokens.{Tok, tok}
-use Rattle.claim.specs.Seen.{kind_of, left, Placed}
+use Rattle.claim.specs.Tokens.{Tok, tok, tokens}
+use Rattle.claim.specs.Seen.{kind_of, left}
 use Rattle.claim.specs.Grammar.{Level, claim, term, factor, Tree, Derives, post}
 use Rattle.claim.specs.Machine.{want, have, depths, scan, Halts}
 
@@ -14,12 +15,12 @@ use Rattle.claim.specs.Machine.{want, have, depths, scan, Halts}
 abbrev pub ahead : Reader → Tok
 ahead a = tok a.ahead.place (kind_of a.ahead.token)
 
--- there is room for a code for each byte that is left
-pub record Ready (a : Reader) : Type 0 where
-  pub placed : Placed a.text.now a.ahead
-  pub short : length a.text.now ≤ 512
-  pub fits : a.count ≤ a.ahead.place
-  pub room : length a.codes ≡ 512
+-- no token was passed and no code written
+pub record Begun (bs : List ℕ) (z : Sizes) (a : Reader) : Type 0 where
+  pub text : a.text.now ≡ bs
+  pub sizes : a.sizes ≡ z
+  pub first : tokens 0 0 bs ≡ left bs a.ahead
+  pub none : a.codes.items ≡ []
 
 -- from a to b the tokens ts were passed and the codes cs written
 pub record Reach (a b : Reader) (ts : List Tok) (cs : List Code) : Type 0 where
@@ -27,10 +28,7 @@ pub record Reach (a b : Reader) (ts : List Tok) (cs : List Code) : Type 0 where
   pub sizes : b.sizes ≡ a.sizes
   pub passed : left a.text.now a.ahead ≡ ts ++ left a.text.now b.ahead
   pub far : a.ahead.place + length ts ≤ b.ahead.place
-  pub placed : Placed a.text.now a.ahead → Placed a.text.now b.ahead
-  pub wrote : take b.count b.codes ≡ take a.count a.codes ++ cs
-  pub count : b.count ≡ a.count + length cs
-  pub room : length b.codes ≡ length a.codes
+  pub wrote : b.codes.items ≡ a.codes.items ++ cs
 
 -- which counts of `!` may stand just before
 abbrev pub Bare : Level → ℕ → Type 0

@@ -1,5 +1,5 @@
 -- What a reading answers.
-use Rattle.std.specs.Prelude.{◌≡◌, ℕ, ◌≤◌, List, length, take}
+use Rattle.std.specs.Prelude.{◌≡◌, ℕ, ◌≤◌, List, length}
 use Rattle.claim.specs.declared.code.Code.{Code}
 use Rattle.circuit.specs.declared.sizes.Sizes.{Sizes}
 use Rattle.claim.specs.declared.codes.Codes.{Codes}
@@ -8,7 +8,7 @@ use Rattle.claim.specs.Faults.{Read}
 
 -- the codes that are in use
 abbrev pub used : Codes → List Code
-used c = take c.count c.list
+used c = c.list.items
 
 -- the codes say what the text says
 pub record Reads (bs : List ℕ) (z : Sizes) (c : Codes) : Type 0 where

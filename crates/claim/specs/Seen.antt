@@ -3,9 +3,9 @@ use Rattle.std.specs.Prelude.{◌≡◌, ℕ, ◌<◌, ◌≤◌, cond, List, []
 use Rattle.claim.specs.declared.lexer.Token.{Token}
 use Rattle.claim.specs.declared.lexer.Token.TheVariants.{Not, And, Or, Open, Close, Constant, Name, Wrong, End}
 use Rattle.claim.specs.declared.lexer.Class as code
-use Rattle.claim.specs.declared.lexer.Class.TheVariants.{Space, Mark, Letter}
+use Rattle.claim.specs.declared.lexer.Class.TheVariants.{Mark, Letter}
 use Rattle.claim.specs.declared.lexer.Lexeme.{Lexeme}
-use Rattle.claim.specs.Tokens.{Kind, bang, amp, bar, lparen, rparen, constant, name, wrong, end, Tok, tok, Class, space, mark, letter, tokens}
+use Rattle.claim.specs.Tokens.{Kind, bang, amp, bar, lparen, rparen, constant, name, wrong, end, Tok, tok, Class, mark, letter, tokens}
 
 abbrev pub kind_of : Token → Kind
 kind_of Not = bang
@@ -19,7 +19,6 @@ kind_of Wrong = wrong
 kind_of End = end
 
 abbrev pub class_of : code.Class → Class
-class_of Space = space
 class_of (Mark t) = mark (kind_of t)
 class_of (Letter s) = letter s
 

@@ -5,6 +5,7 @@ use Rattle.claim.specs.declared.code.Sort.TheVariants.{Register, Input, Gate}
 use Rattle.claim.specs.declared.code.Act.{Act}
 use Rattle.claim.specs.declared.code.Act.TheVariants.{Constant, Name, Not, And, Or}
 use Rattle.claim.specs.declared.code.Code.{Code}
+use Rattle.claim.specs.declared.eval.Valuation.{Valuation}
 use Rattle.claim.specs.Grammar.{Tree, const, named, neg, conj, disj}
 
 -- each operation is given the place that it comes from
@@ -63,7 +64,7 @@ abbrev pub truth : (Sort → ℕ → Bool) → Tree → Bool
 truth v t = fold (logic v) t
 
 -- the truths that are lent; a missing one is false
-abbrev pub valuation : List Bool → List Bool → List Bool → Sort → ℕ → Bool
-valuation rs is gs Register n = slice_index_or rs n false
-valuation rs is gs Input n = slice_index_or is n false
-valuation rs is gs Gate n = slice_index_or gs n false
+abbrev pub valuation : Valuation → Sort → ℕ → Bool
+valuation v Register n = slice_index_or v.registers.now n false
+valuation v Input n = slice_index_or v.inputs.now n false
+valuation v Gate n = slice_index_or v.gates.now n false

@@ -1,5 +1,5 @@
 // What a claim is read into.
-#[derive(Clone, Copy)]
+#[derive(Clone, Copy, PartialEq, Eq, Debug)]
 pub enum Sort {
     Register,
     Input,
@@ -7,17 +7,18 @@ pub enum Sort {
 }
 
 // What a code does to a stack: it puts a value on top, or an operator takes its operands from there.
-#[derive(Clone, Copy)]
+#[derive(Clone, Copy, PartialEq, Eq, Debug, Default)]
 pub enum Act {
     Constant(bool),
     Name(Sort, u16),
+    #[default]
     Not,
     And,
     Or,
 }
 
-// An act and the byte of the text that it comes from.
-#[derive(Clone, Copy)]
+// An act and the byte of the text that it comes from. The default fills room that is not in use.
+#[derive(Clone, Copy, PartialEq, Eq, Debug, Default)]
 pub struct Code {
     pub act: Act,
     pub place: u16,

@@ -1,14 +1,23 @@
 // The codes of one claim, operands first.
-ghost use Rattle.std.specs.Prelude.{◌≡◌, ◌≤◌, length, take};
+ghost use Rattle.std.specs.Prelude.{◌≡◌, ◌≤◌, length};
 ghost use Rattle.claim.specs.Grammar.{Tree, post};
 
 use crate::code::Code;
+use arrayvec::ArrayVec;
 
 #[derive(Drop)]
 pub struct Codes {
-    pub(crate) list: [Code; 512],
-    pub(crate) count: usize,
-    ghost wide: { length list ≡ 512 },
-    ghost within: { count ≤ 512 },
-    ghost made: { ∥ ((t : Tree) × (take count list ≡ post t)) ∥₁ },
+    pub(crate) list: ArrayVec<Code, 512>,
+    ghost within: { length list.items ≤ 512 },
+    ghost made: { ∥ ((t : Tree) × (list.items ≡ post t)) ∥₁ },
+}
+
+impl Codes {
+    ghost use Rattle.claim.specs.Result.{used};
+
+    pub fn codes(&self) -> &[Code]
+        ensures { result.now ≡ used self.now }
+    {
+        self.list.as_slice()
+    }
 }

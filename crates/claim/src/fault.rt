@@ -28,9 +28,7 @@ impl Fault {
         ensures { result ≡ place_of self }
     {
         match self {
-            Fault::Claim(place) => place,
-            Fault::Name(place) => place,
-            Fault::Deep(place) => place,
+            Fault::Claim(place) | Fault::Name(place) | Fault::Deep(place) => place,
         }
     }
 }

@@ -1,5 +1,7 @@
 // Cuts a claim's text into tokens.
-ghost use Rattle.std.specs.Prelude.{◌≡◌, ◌≤◌, length};
+ghost use Rattle.std.specs.Prelude.{◌≡◌, ◌≤◌, length, ◌≢◌, ◌==◌};
+ghost use Rattle.std.specs.Char.{is_ascii_digit};
+ghost use Rattle.std.specs.List.{prefix_len};
 ghost use Rattle.claim.specs.Tokens.{class, digits, name_of};
 ghost use Rattle.claim.specs.Seen.{kind_of, class_of, Lexed};
 
@@ -26,19 +28,17 @@ pub struct Lexeme<'a> {
     pub end: usize,
 }
 
-// What a byte begins.
-#[derive(Clone, Copy)]
+// What a byte other than a space begins.
 pub enum Class<'a> {
-    Space,
     Mark(Token<'a>),
     Letter(Sort),
 }
 
 fn class_of<'a>(byte: u8) -> Class<'a>
+    requires { byte ≢ 32 }
     ensures { class_of result ≡ class byte }
 {
     match byte as char {
-        ' ' => Class::Space,
         '!' => Class::Mark(Token::Not),
         '&' => Class::Mark(Token::And),
         '|' => Class::Mark(Token::Or),
@@ -53,58 +53,58 @@ fn class_of<'a>(byte: u8) -> Class<'a>
     }
 }
 
-// The digits that the text begins with.
-fn leading_digits<'a>(text: &'a [u8]) -> &'a [u8]
-    ensures { result.now ≡ digits text.now }
+// How many spaces the text begins with.
+fn count_spaces(text: &[u8]) -> usize
+    ensures count { result ≡ prefix_len (λ byte. byte == 32) text.now }
+    ensures within { result ≤ length text.now }
 {
-    for (n, byte) in text.iter().enumerate() {
-        match *byte as char {
-            '0'..='9' => {}
-            _ => return &text[0..n],
-        }
-    }
-    text
+    text.iter().take_while(|byte| **byte == b' ').count()
+}
+
+// How many digits the text begins with.
+fn count_digits(text: &[u8]) -> usize
+    ensures count { result ≡ prefix_len is_ascii_digit text.now }
+    ensures within { result ≤ length text.now }
+{
+    text.iter().take_while(|byte| byte.is_ascii_digit()).count()
 }
 
 // The name that a letter begins with these digits.
-fn name<'a>(sort: Sort, digits: &'a [u8]) -> Token<'a>
+fn name(sort: Sort, digits: &[u8]) -> Token<'_>
     ensures { kind_of result ≡ name_of sort digits.now }
 {
-    if digits.len() == 0 || (digits.len() > 1 && digits[0] as char == '0') {
-        Token::Wrong
-    } else {
-        Token::Name(sort, digits)
+    match digits {
+        [] | [b'0', _, ..] => Token::Wrong,
+        _ => Token::Name(sort, digits),
     }
 }
 
 // The first token at or after `at`.
-pub fn next_token<'a>(text: &'a [u8], at: usize) -> Lexeme<'a>
+pub fn next_token(text: &[u8], at: usize) -> Lexeme<'_>
     requires { at ≤ length text.now }
     ensures { Lexed text.now at result }
 {
-    let mut place = at;
-    while place < text.len() {
-        match class_of(text[place]) {
-            Class::Space => place += 1,
-            Class::Mark(token) => return Lexeme {
-                token,
+    let place = at + count_spaces(&text[at..]);
+    let Some(byte) = text.get(place) else {
+        return Lexeme {
+            token: Token::End,
+            place,
+            end: place,
+        };
+    };
+    match class_of(*byte) {
+        Class::Mark(token) => Lexeme {
+            token,
+            place,
+            end: place + 1,
+        },
+        Class::Letter(sort) => {
+            let end = place + 1 + count_digits(&text[place + 1..]);
+            Lexeme {
+                token: name(sort, &text[place + 1..end]),
                 place,
-                end: place + 1,
-            },
-            Class::Letter(sort) => {
-                let digits = leading_digits(&text[place + 1..]);
-                let token = name(sort, digits);
-                return Lexeme {
-                    token,
-                    place,
-                    end: place + 1 + digits.len(),
-                };
+                end,
             }
         }
-    }
-    Lexeme {
-        token: Token::End,
-        place,
-        end: place,
     }
 }

@@ -5,8 +5,11 @@
 mod tests {
     use circuit::sizes::Sizes;
     use claim::code::*;
-    use claim::eval::truth;
+    use claim::eval::{Valuation, truth};
+    use claim::fault::Fault;
+    use claim::fault::Fault::{Claim, Deep, Name};
     use claim::*;
+    use std::array;
     use std::test::Fail;
 
     const SIZES: Sizes = Sizes {
@@ -15,167 +18,156 @@ mod tests {
         gates: 11,
     };
 
-    // 0 and the count of codes, or the fault's number and place.
-    fn outcome(text: &[u8]) -> (u8, usize) {
-        match read(text, SIZES) {
-            Ok(codes) => (0, codes.codes().len()),
-            Err(fault) => (fault.number(), fault.place()),
-        }
+    // The count of codes, or the fault.
+    fn outcome(text: &[u8]) -> Result<usize, Fault> {
+        Ok(read(text, SIZES)?.codes().len())
     }
 
-    const TEXTS: [(&str, u8, usize); 81] = [
+    const TEXTS: [(&str, Result<usize, Fault>); 81] = [
         // Atoms and spaces.
-        ("0", 0, 1),
-        ("1", 0, 1),
-        ("s0", 0, 1),
-        ("v0", 0, 1),
-        ("g0", 0, 1),
-        ("  s0  ", 0, 1),
-        (" ( s0 & ! v0 ) ", 0, 4),
-        ("", 7, 0),
-        ("   ", 7, 3),
-        ("\ts0", 7, 0),
-        ("s0\t", 7, 2),
-        ("s0\n", 7, 2),
+        ("0", Ok(1)),
+        ("1", Ok(1)),
+        ("s0", Ok(1)),
+        ("v0", Ok(1)),
+        ("g0", Ok(1)),
+        ("  s0  ", Ok(1)),
+        (" ( s0 & ! v0 ) ", Ok(4)),
+        ("", Err(Claim(0))),
+        ("   ", Err(Claim(3))),
+        ("\ts0", Err(Claim(0))),
+        ("s0\t", Err(Claim(2))),
+        ("s0\n", Err(Claim(2))),
         // Numbers.
-        ("s7", 0, 1),
-        ("s8", 8, 0),
-        ("v1", 8, 0),
-        ("g10", 0, 1),
-        ("g11", 8, 0),
-        ("s00", 7, 0),
-        ("s01", 7, 0),
-        ("s0000000", 7, 0),
-        ("s65536", 8, 0),
-        ("s4294967296", 8, 0),
-        ("s340282366920938463463374607431768211456", 8, 0),
-        ("s", 7, 0),
-        ("s0 & v", 7, 5),
-        ("s 0", 7, 0),
-        ("s-1", 7, 0),
-        ("s0s0", 7, 2),
-        ("s0x", 7, 2),
-        ("00", 7, 1),
-        ("01", 7, 1),
-        ("10", 7, 1),
-        ("2", 7, 0),
-        ("9", 7, 0),
+        ("s7", Ok(1)),
+        ("s8", Err(Name(0))),
+        ("v1", Err(Name(0))),
+        ("g10", Ok(1)),
+        ("g11", Err(Name(0))),
+        ("s00", Err(Claim(0))),
+        ("s01", Err(Claim(0))),
+        ("s0000000", Err(Claim(0))),
+        ("s65536", Err(Name(0))),
+        ("s4294967296", Err(Name(0))),
+        ("s340282366920938463463374607431768211456", Err(Name(0))),
+        ("s", Err(Claim(0))),
+        ("s0 & v", Err(Claim(5))),
+        ("s 0", Err(Claim(0))),
+        ("s-1", Err(Claim(0))),
+        ("s0s0", Err(Claim(2))),
+        ("s0x", Err(Claim(2))),
+        ("00", Err(Claim(1))),
+        ("01", Err(Claim(1))),
+        ("10", Err(Claim(1))),
+        ("2", Err(Claim(0))),
+        ("9", Err(Claim(0))),
         // Bytes that begin no token.
-        ("S0", 7, 0),
-        ("x0", 7, 0),
-        ("s0 = 1", 7, 3),
-        ("s0 & #", 7, 5),
+        ("S0", Err(Claim(0))),
+        ("x0", Err(Claim(0))),
+        ("s0 = 1", Err(Claim(3))),
+        ("s0 & #", Err(Claim(5))),
         // Operators and brackets.
-        ("s0&v0", 0, 3),
-        ("s0|v0", 0, 3),
-        ("s0&v0&g0", 0, 5),
-        ("s0|v0|g0", 0, 5),
-        ("s0|v0&g0", 0, 5),
-        ("!s0", 0, 2),
-        ("!!s0", 0, 3),
-        ("(s0)", 0, 1),
-        ("((s0))", 0, 1),
-        ("!(s0&v0)", 0, 4),
-        ("& s0", 7, 0),
-        ("| s0", 7, 0),
-        ("s0 &", 7, 4),
-        ("s0 | ", 7, 5),
-        ("s0 && v0", 7, 4),
-        ("s0 || v0", 7, 4),
-        ("s0 & | v0", 7, 5),
-        ("s0 v0", 7, 3),
-        ("s0 !v0", 7, 3),
-        ("s0 (v0)", 7, 3),
-        ("s0 1", 7, 3),
-        ("!", 7, 1),
-        ("!&", 7, 1),
-        (")", 7, 0),
-        ("()", 7, 1),
-        ("(s0", 7, 3),
-        ("(s0 ", 7, 4),
-        ("(s0 &)", 7, 5),
-        ("s0)", 7, 2),
-        ("(s0))", 7, 4),
-        ("(s0)(v0)", 7, 4),
+        ("s0&v0", Ok(3)),
+        ("s0|v0", Ok(3)),
+        ("s0&v0&g0", Ok(5)),
+        ("s0|v0|g0", Ok(5)),
+        ("s0|v0&g0", Ok(5)),
+        ("!s0", Ok(2)),
+        ("!!s0", Ok(3)),
+        ("(s0)", Ok(1)),
+        ("((s0))", Ok(1)),
+        ("!(s0&v0)", Ok(4)),
+        ("& s0", Err(Claim(0))),
+        ("| s0", Err(Claim(0))),
+        ("s0 &", Err(Claim(4))),
+        ("s0 | ", Err(Claim(5))),
+        ("s0 && v0", Err(Claim(4))),
+        ("s0 || v0", Err(Claim(4))),
+        ("s0 & | v0", Err(Claim(5))),
+        ("s0 v0", Err(Claim(3))),
+        ("s0 !v0", Err(Claim(3))),
+        ("s0 (v0)", Err(Claim(3))),
+        ("s0 1", Err(Claim(3))),
+        ("!", Err(Claim(1))),
+        ("!&", Err(Claim(1))),
+        (")", Err(Claim(0))),
+        ("()", Err(Claim(1))),
+        ("(s0", Err(Claim(3))),
+        ("(s0 ", Err(Claim(4))),
+        ("(s0 &)", Err(Claim(5))),
+        ("s0)", Err(Claim(2))),
+        ("(s0))", Err(Claim(4))),
+        ("(s0)(v0)", Err(Claim(4))),
         // Which fault comes first.
-        ("s0 s9", 7, 3),
-        ("s9 s0", 8, 0),
-        ("s0 & g11 )", 8, 5),
-        ("s9 & s00", 8, 0),
+        ("s0 s9", Err(Claim(3))),
+        ("s9 s0", Err(Name(0))),
+        ("s0 & g11 )", Err(Name(5))),
+        ("s9 & s00", Err(Name(0))),
         // How deep.
-        ("!!!!!!!!!!!!!!!!s0", 0, 17),
-        ("!!!!!!!!!!!!!!!!!s0", 9, 16),
-        ("((((((((((((((((s0))))))))))))))))&(s0)", 0, 3),
-        ("(((((((((((((((((s0)))))))))))))))))", 9, 16),
-        ("!(!(!(!(!(!(!(!(s0|v0))))))))&!!!!!!!!!!!!!!!!s0", 0, 29),
-        ("!(!(!(!(!(!(!(!(s0|!v0))))))))", 9, 19),
-        ("!!!!!!!!!!!!!!!!!)", 9, 16),
-        ("((((((((((((((((s0(", 7, 18),
+        ("!!!!!!!!!!!!!!!!s0", Ok(17)),
+        ("!!!!!!!!!!!!!!!!!s0", Err(Deep(16))),
+        ("((((((((((((((((s0))))))))))))))))&(s0)", Ok(3)),
+        ("(((((((((((((((((s0)))))))))))))))))", Err(Deep(16))),
+        ("!(!(!(!(!(!(!(!(s0|v0))))))))&!!!!!!!!!!!!!!!!s0", Ok(29)),
+        ("!(!(!(!(!(!(!(!(s0|!v0))))))))", Err(Deep(19))),
+        ("!!!!!!!!!!!!!!!!!)", Err(Deep(16))),
+        ("((((((((((((((((s0(", Err(Claim(18))),
     ];
 
     #[test]
     fn texts(rt: HostRuntime) {
-        for (text, number, place) in TEXTS {
-            assert_eq!(rt; outcome(text.as_bytes()), (number, place), "{}", text);
+        for (text, want) in TEXTS {
+            assert_eq!(rt; outcome(text.as_bytes()), want, "{}", text);
         }
     }
 
     #[test]
     fn bytes(rt: HostRuntime) {
-        assert_eq!(rt; outcome(&[0]), (7, 0));
-        assert_eq!(rt; outcome(&[255]), (7, 0));
-        assert_eq!(rt; outcome(&[b's', b'0', 0]), (7, 2));
-        assert_eq!(rt; outcome(&[b's', 176]), (7, 0));
-        assert_eq!(rt; outcome(&[b's', b'0', b' ', 160]), (7, 3));
+        assert_eq!(rt; outcome(&[0]), Err(Claim(0)));
+        assert_eq!(rt; outcome(&[255]), Err(Claim(0)));
+        assert_eq!(rt; outcome(&[b's', b'0', 0]), Err(Claim(2)));
+        assert_eq!(rt; outcome(&[b's', 176]), Err(Claim(0)));
+        assert_eq!(rt; outcome(&[b's', b'0', b' ', 160]), Err(Claim(3)));
+    }
+
+    #[test]
+    fn faults(rt: HostRuntime) {
+        let faults = [Claim(3), Name(4), Deep(5)];
+        assert_eq!(rt; faults.map(Fault::number), [7, 8, 9]);
+        assert_eq!(rt; faults.map(Fault::place), [3, 4, 5]);
     }
 
     // 1&1&1 and so on.
     fn ands() -> [u8; 513] {
-        let mut text = [b'1'; 513];
-        for i in 0..256 {
-            text[2 * i + 1] = b'&';
-        }
-        text
+        array::from_fn(|i| if i % 2 == 0 { b'1' } else { b'&' })
     }
 
     #[test]
     fn lengths(rt: HostRuntime) {
-        assert_eq!(rt; outcome(&[b'!'; 513]), (7, 512));
+        assert_eq!(rt; outcome(&[b'!'; 513]), Err(Claim(512)));
         let mut text = ands();
-        assert_eq!(rt; outcome(&text), (7, 512));
-        assert_eq!(rt; outcome(&text[0..512]), (7, 512));
-        assert_eq!(rt; outcome(&text[0..511]), (0, 511));
+        assert_eq!(rt; outcome(&text), Err(Claim(512)));
+        assert_eq!(rt; outcome(&text[0..512]), Err(Claim(512)));
+        assert_eq!(rt; outcome(&text[0..511]), Ok(511));
         text[511] = b' ';
-        assert_eq!(rt; outcome(&text[0..512]), (0, 511));
+        assert_eq!(rt; outcome(&text[0..512]), Ok(511));
         text[511] = b')';
-        assert_eq!(rt; outcome(&text[0..512]), (7, 511));
+        assert_eq!(rt; outcome(&text[0..512]), Err(Claim(511)));
     }
 
-    // The act's number, what it holds, and its place.
-    fn shown(code: Code) -> (u8, u16, u16) {
-        match code.act {
-            Act::Constant(value) => (0, value as u16, code.place),
-            Act::Name(Sort::Register, n) => (1, n, code.place),
-            Act::Name(Sort::Input, n) => (2, n, code.place),
-            Act::Name(Sort::Gate, n) => (3, n, code.place),
-            Act::Not => (4, 0, code.place),
-            Act::And => (5, 0, code.place),
-            Act::Or => (6, 0, code.place),
-        }
-    }
-
-    const CODES: [(u8, u16, u16); 11] = [
-        (1, 7, 1),
-        (2, 0, 9),
-        (3, 10, 12),
-        (6, 0, 11),
-        (4, 0, 6),
-        (5, 0, 4),
-        (0, 0, 19),
-        (5, 0, 17),
-        (0, 1, 23),
-        (1, 0, 25),
-        (5, 0, 24),
+    // The acts and places of a claim that has them all.
+    const CODES: [(Act, u16); 12] = [
+        (Act::Name(Sort::Register, 7), 1),
+        (Act::Name(Sort::Input, 0), 9),
+        (Act::Name(Sort::Gate, 10), 12),
+        (Act::Or, 11),
+        (Act::Not, 6),
+        (Act::And, 4),
+        (Act::Constant(false), 19),
+        (Act::And, 17),
+        (Act::Constant(true), 23),
+        (Act::Name(Sort::Register, 0), 25),
+        (Act::And, 24),
+        (Act::Or, 21),
     ];
 
     #[test]
@@ -183,11 +175,8 @@ mod tests {
         let Ok(codes) = read(b" s7 & !( v0|g10) & 0 | 1&s0", SIZES) else {
             return Err(Fail::new("not read"));
         };
-        assert!(rt; codes.codes().len() == 12);
-        assert_eq!(rt; shown(codes.codes()[11]), (6, 0, 21));
-        for (code, want) in codes.codes().iter().zip(CODES) {
-            assert_eq!(rt; shown(*code), want);
-        }
+        let want = CODES.map(|(act, place)| Code { act, place });
+        assert_eq!(rt; codes.codes(), want.as_slice());
         Ok(())
     }
 
@@ -218,7 +207,12 @@ mod tests {
             let Ok(codes) = read(text.as_bytes(), SIZES) else {
                 return Err(Fail::new(text));
             };
-            assert_eq!(rt; truth(&codes, &[s], &[v], &[g]), answer, "{}", text);
+            let values = Valuation {
+                registers: &[s],
+                inputs: &[v],
+                gates: &[g],
+            };
+            assert_eq!(rt; truth(&codes, &values), answer, "{}", text);
         }
         Ok(())
     }

@@ -1,30 +1,40 @@
 -- The parts of one step back.
-use Rattle.std.proofs.Common.{◌≡◌, ℕ, ◌+◌, ◌*◌, ◌<◌, ◌≤◌, sym, subst, arith}
-use Rattle.store.specs.Fun.{Fn}
+use Rattle.std.proofs.Common.{◌≡◌, ℕ, ◌+◌, ◌*◌, ◌<◌, ◌≤◌, List, length, Result, sym, subst, arith}
+use Rattle.store.specs.declared.refusal.Refusal.{Refusal}
+use Rattle.store.specs.Fun.{Fn, bit}
 use Rattle.store.specs.Meaning.{Shown, Grown}
-use Rattle.runs.specs.Functions.{register, copy}
+use Rattle.description.specs.declared.part.Part.{Part}
+use Rattle.runs.specs.Functions.{register, copy, composed_all}
+use Rattle.making.specs.declared.parts.Polarities.{Polarities}
 use Rattle.making.specs.declared.parts.Parts.{Parts}
+use Rattle.making.specs.Making.{Means, Paired}
+use Rattle.making.specs.Pieces.{composed_all_list}
 use Rattle.making.specs.Loads.{Kept}
+use Rattle.making.specs.Ends.{plain, Gives}
+use Rattle.making.specs.Promises.{ComposesAll}
 use Rattle.making.proofs.Steps.{kept}
+use Rattle.making.proofs.Loops.{paired_kept}
 
 pub kept_all : {s t : Shown} {k : Parts} {next : ℕ → Fn} {h : Fn} → Grown s t → Kept s k next h → Kept t k next h
 kept_all {k = p} g k = record {
   wide = subst (λ n. 2 * p.n + p.m ≤ n) (sym g.vars) k.wide;
-  copies = λ i l. kept g (k.copies i l);
-  uncopies = λ i l. kept g (k.uncopies i l);
-  nexts = λ i l. kept g (k.nexts i l);
-  unnexts = λ i l. kept g (k.unnexts i l);
+  copies = paired_kept p.copies.items _ p.n g k.copies;
+  nexts = paired_kept p.nexts.items _ p.n g k.nexts;
   assumed = kept g k.assumed;
 }
 
-pub from_0 : (n i : ℕ) → i < n → 0 + 2 * i ≡ register i
-from_0 n i l = omega arith
+module _ (p : Part) (l : ℕ) {s t : Shown} (f : Fn) (a : ℕ) (bs : List Polarities) (r : Result ℕ Refusal) (mf : Means s a f) where
+  -- n pairs are put for variables
+  puts : (first : ℕ) (x : ℕ → ℕ) (g : ℕ → Fn) (ps : List Polarities) (n : ℕ) → bs ≡ ps → length ps ≡ n → ((i : ℕ) → first + 2 * i ≡ x i) → Paired s ps g n
+      → ((i : ℕ) → i < n → x i < s.vars) → ComposesAll s a first bs r t → Gives plain s t (composed_all_list p l x g f n) (composed_all x g f n) r
+  puts first x g ps n e d vs mp li y =
+      subst (λ k. Gives plain s t (composed_all_list p l x g f k) (composed_all x g f k) r) d
+      (subst (λ xs. ComposesAll s a first xs r t) e y p l x f g vs mf (subst (λ k. Paired s ps g k) (sym d) mp) (λ i lt. li i (subst (λ k. i < k) d lt)))
 
-pub from_1 : (n i : ℕ) → i < n → 1 + 2 * i ≡ copy i
-from_1 n i l = omega arith
+  module _ (k : Parts) (next : ℕ → Fn) (h : Fn) (keeps : Kept s k next h) where
+    pub puts_copies : bs ≡ k.copies.items → ComposesAll s a 0 bs r t
+        → Gives plain s t (composed_all_list p l register (λ i. bit (copy i)) f k.n) (composed_all register (λ i. bit (copy i)) f k.n) r
+    puts_copies e y = puts 0 register (λ i. bit (copy i)) k.copies.items k.n e k.copied (λ i. omega arith) keeps.copies (λ i lt. omega (arith, keeps.wide)) y
 
-pub register_below : (n m k i : ℕ) → 2 * n + m ≤ k → i < n → register i < k
-register_below n m k i h l = omega arith
-
-pub copy_below : (n m k i : ℕ) → 2 * n + m ≤ k → i < n → copy i < k
-copy_below n m k i h l = omega arith
+    pub puts_nexts : bs ≡ k.nexts.items → ComposesAll s a 1 bs r t → Gives plain s t (composed_all_list p l copy next f k.n) (composed_all copy next f k.n) r
+    puts_nexts e y = puts 1 copy next k.nexts.items k.n e k.led (λ i. omega arith) keeps.nexts (λ i lt. omega (arith, keeps.wide)) y

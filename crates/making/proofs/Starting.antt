@@ -1,22 +1,26 @@
 -- The first set, whether it meets Init, and the negations that an advance takes.
-use Rattle.std.proofs.Common.{◌≡◌, ℕ, ◌+◌, ◌*◌, ◌<◌, ◌≤◌, List, [], ◌∷◌, get_or, Result, sym, refl, subst, arith}
+use Rattle.std.proofs.Common.{◌≡◌, ℕ, ◌+◌, ◌-◌, ◌*◌, ◌<◌, ◌≤◌, List, [], ◌∷◌, length, get_or, drop, Result, sym, refl, ap, ◌∙◌, subst, arith, length-drop}
+use Rattle.std.proofs.lemmas.List.{length-take, get_or-take, get_or-drop}
+use Rattle.std.specs.List.{slice_range}
+use Rattle.arrayvec.specs.ArrayVec.{ArrayVec}
 use Rattle.store.specs.declared.refusal.Refusal.{Refusal}
 use Rattle.store.specs.Fun.{Fn, bit}
-use Rattle.store.specs.Meaning.{Shown, Lawful}
+use Rattle.store.specs.Meaning.{Shown, Lawful, Grown}
 use Rattle.store.specs.Calls.{MakesAnd}
 use Rattle.circuit.specs.Netlists.{lines, next_line, init_line}
 use Rattle.description.specs.declared.part.Part.{Part}
 use Rattle.runs.specs.Functions.{copy, negated, both, first_of, quantified}
 use Rattle.runs.specs.Valuations.{line_fn, next_fn, init_fn}
 use Rattle.runs.specs.Models.{Model, Valid}
+use Rattle.making.specs.declared.parts.Polarities.{Polarities}
 use Rattle.making.specs.declared.parts.Built.{Built}
 use Rattle.making.specs.Models.{width}
-use Rattle.making.specs.Making.{at, Means, Numbered}
+use Rattle.making.specs.Making.{at, Means, Numbered, Paired}
 use Rattle.making.specs.Pieces.{halves_list, negations_list}
 use Rattle.making.specs.Loads.{first_list, start_list, Loaded}
 use Rattle.making.specs.Ends.{Ends, plain, Gives}
 use Rattle.making.specs.Promises.{MakesFirst, Negates}
-use Rattle.making.proofs.Steps.{and_answers, gives_last}
+use Rattle.making.proofs.Steps.{kept, and_answers, gives_last}
 use Rattle.making.proofs.Placing.{Lies, lies_at, lies_++, lies_upto}
 
 pub lies_start : (p : Part) (l n k : ℕ) (h q init : Fn) (next : ℕ → Fn) → Lies p l (start_list p l n k h q init next)
@@ -28,50 +32,60 @@ lies_start p l n k h q init next =
       lies_++ p l (negations_list p l (λ i. bit (copy i)) n) _ (lies_upto p l _ (λ i. (refl, refl, tt)) n) (lies_upto p l _ (λ i. (refl, refl, tt)) n),
     )
 
-module _ (m : Model) (ok : Valid m) (p : Part) (l : ℕ) (h q : Fn) (s : Shown) where
+pub nexts_length : (m : Model) → Valid m → (numbers : List ℕ) → length numbers ≡ lines m.circuit
+    → length (slice_range numbers (next_line m.circuit 0) (init_line m.circuit)) ≡ m.circuit.registers
+nexts_length m ok numbers whole =
+    let first = next_line m.circuit 0 in
+    omega (arith, length-take (init_line m.circuit - first) (drop first numbers), length-drop first numbers, whole, ok.circuit.enough_gates)
+
+module _ (m : Model) (p : Part) (l : ℕ) (h q : Fn) (s : Shown) where
   abbrev set_fn : Fn
   set_fn = first_of m.circuit.registers m.circuit.inputs h q
 
-  -- the numbers of Init and of the next values are among those of the lines
-  module _ (numbers : List ℕ) (lined : Numbered s numbers (line_fn m) (lines m.circuit)) where
+  pub set_made : (n k a b : ℕ) (t : Shown) (r : Result ℕ Refusal) → n ≡ m.circuit.registers → k ≡ m.circuit.inputs → width m ≤ s.vars
+      → Means s a h → Means s b q → MakesFirst s n k a b r t
+      → Gives plain s t (first_list p l m.circuit.registers m.circuit.inputs h q) set_fn r
+  set_made n k a b t r en ek w mh mq y =
+      subst (λ n. MakesFirst s n m.circuit.inputs a b r t) en (subst (λ k. MakesFirst s n k a b r t) ek y) p l h q w mh mq
+
+  -- f 0 to f (n - 1) with their negations
+  pub pairs_made : {t u : Shown} (f : ℕ → Fn) (n : ℕ) (ns bs : List ℕ) (r : Result (ArrayVec Polarities) Refusal) → Grown s t → Lawful t → Numbered s ns f n → length ns ≡ n → bs ≡ ns
+      → Negates t bs r u → Ends plain t u (negations_list p l f n) (λ ps. Lawful u × Paired u ps.items f n) r
+  pairs_made {t = t} {u = u} f n ns bs r g w k whole e y =
+      subst (λ n. Ends plain t u (negations_list p l f n) (λ ps. Lawful u × Paired u ps.items f n) r) whole
+      (subst (λ xs. Negates t xs r u) e y p l f w (λ i lt. kept g (k i (subst (λ n. i < n) whole lt))))
+
+  module _ (ok : Valid m) (numbers : List ℕ) (lined : Numbered s numbers (line_fn m) (lines m.circuit)) where
+    -- the numbers of Init and of the next values are among those of the lines
     pub init_means : (a : ℕ) → a ≡ get_or numbers (init_line m.circuit) 0 → Means s a (init_fn m)
     init_means a e = subst (λ x. Means s x (init_fn m)) (sym e) (lined (init_line m.circuit) (omega (arith, ok.circuit.enough_gates)))
 
-    pub nexts_mean : (bs : List ℕ) → ((i : ℕ) → i < m.circuit.registers → get_or bs i 0 ≡ get_or numbers (next_line m.circuit i) 0)
-        → Numbered s bs (next_fn m) m.circuit.registers
-    nexts_mean bs e i lt = subst (λ x. Means s x (next_fn m i)) (sym (e i lt)) (lined (next_line m.circuit i) (omega (arith, ok.circuit.enough_gates)))
+    pub met_made : {t u : Shown} (a b : ℕ) (r : Result ℕ Refusal) → Grown s t → Means t a set_fn → b ≡ get_or numbers (init_line m.circuit) 0 → MakesAnd t a b r u
+        → Gives plain t u (at p l (both set_fn (init_fn m) ∷ [])) (both set_fn (init_fn m)) r
+    met_made a b r g ma e y = gives_last y.lawful r (and_answers y ma (kept g (init_means b e)))
 
-  pub first_ends : (n k a b : ℕ) (t : Shown) (r : Result ℕ Refusal) → n ≡ m.circuit.registers → k ≡ m.circuit.inputs → width m ≤ s.vars
-      → Means s a h → Means s b q → MakesFirst s n k a b r t
-      → Gives plain s t (first_list p l m.circuit.registers m.circuit.inputs h q) set_fn r
-  first_ends n k a b t r en ek w mh mq y =
-      subst (λ n. MakesFirst s n m.circuit.inputs a b r t) en (subst (λ k. MakesFirst s n k a b r t) ek y) p l h q w mh mq
-
-  pub met_ends : (t u : Shown) (a b : ℕ) (r : Result ℕ Refusal) → Means t a set_fn → Means t b (init_fn m) → MakesAnd t a b r u
-      → Gives plain t u (at p l (both set_fn (init_fn m) ∷ [])) (both set_fn (init_fn m)) r
-  met_ends t u a b r ma mb y = gives_last y.lawful r (and_answers y ma mb)
-
-  pub negations_end : (t u : Shown) (bs : List ℕ) (f : ℕ → Fn) (n : ℕ) (r : Result (List ℕ) Refusal) → n ≡ m.circuit.registers → Lawful t
-      → Numbered t bs f m.circuit.registers → Negates t bs n r u
-      → Ends plain t u (negations_list p l f m.circuit.registers) (λ cs. Lawful u × Numbered u cs (λ i. negated (f i)) m.circuit.registers) r
-  negations_end t u bs f n r en w bsn y = subst (λ n. Negates t bs n r u) en y p l f w bsn
+    pub nexts_mean : Numbered s (slice_range numbers (next_line m.circuit 0) (init_line m.circuit)) (next_fn m) m.circuit.registers
+    nexts_mean i lt =
+        let first = next_line m.circuit 0 in
+        let k = init_line m.circuit - first in
+        let within : i < k = omega (arith, lt, ok.circuit.enough_gates) in
+        let e : first + i ≡ next_line m.circuit i = omega arith in
+        subst (λ x. Means s x (next_fn m i)) (sym (get_or-take k (drop first numbers) i 0 within ∙ get_or-drop first numbers i 0 ∙ ap (λ j. get_or numbers j 0) e))
+        (lined (next_line m.circuit i) (omega (arith, ok.circuit.enough_gates)))
 
   -- the numbers in the end
   pub loaded : (t : Shown) (b : Built) → b.parts.n ≡ m.circuit.registers → b.parts.m ≡ m.circuit.inputs → width m ≤ t.vars → Lawful t
-      → Numbered t b.parts.copies (λ i. bit (copy i)) m.circuit.registers → Numbered t b.parts.uncopies (λ i. negated (bit (copy i))) m.circuit.registers
-      → Numbered t b.parts.nexts (next_fn m) m.circuit.registers → Numbered t b.parts.unnexts (λ i. negated (next_fn m i)) m.circuit.registers
+      → Paired t b.parts.copies.items (λ i. bit (copy i)) m.circuit.registers → Paired t b.parts.nexts.items (next_fn m) m.circuit.registers
       → Means t b.parts.assumed h → Means t b.parts.property q → Means t b.parts.init (init_fn m)
       → Means t b.set set_fn → Means t b.met (both set_fn (init_fn m)) → Loaded t m h q b
-  loaded t b en ek w lawful cs us ns vs mh mq mi ms mm = record {
+  loaded t b en ek w lawful cs ns mh mq mi ms mm = record {
     lawful = lawful;
     registers = en;
     inputs = ek;
     kept = record {
       wide = omega arith;
-      copies = subst (λ n. Numbered t b.parts.copies (λ i. bit (copy i)) n) (sym en) cs;
-      uncopies = subst (λ n. Numbered t b.parts.uncopies (λ i. negated (bit (copy i))) n) (sym en) us;
-      nexts = subst (λ n. Numbered t b.parts.nexts (next_fn m) n) (sym en) ns;
-      unnexts = subst (λ n. Numbered t b.parts.unnexts (λ i. negated (next_fn m i)) n) (sym en) vs;
+      copies = subst (λ n. Paired t b.parts.copies.items (λ i. bit (copy i)) n) (sym en) cs;
+      nexts = subst (λ n. Paired t b.parts.nexts.items (next_fn m) n) (sym en) ns;
       assumed = mh;
     };
     property = mq;

@@ -1,86 +1,80 @@
 -- The variables of a model, one after the other.
-use Rattle.std.proofs.Common.{◌≡◌, ℕ, suc, ◌+◌, ◌*◌, ◌<◌, ◌≤◌, List, [], ◌∷◌, length, set, Ok, Err, sym, ◌∙◌, subst, add-one, arith}
+use Rattle.std.proofs.Common.{◌≡◌, ℕ, suc, ◌+◌, ◌-◌, ◌*◌, ◌<◌, ◌≤◌, List, [], ◌∷◌, ◌++◌, length, Ok, Err, sym, ap, ◌∙◌, subst, add-one, arith}
 use Rattle.store.specs.declared.refusal.Refusal.{Refusal}
 use Rattle.store.specs.Fun.{bit}
 use Rattle.store.specs.Meaning.{Shown, Made}
 use Rattle.store.specs.Calls.{MakesVariable}
-use Rattle.circuit.specs.Netlists.{lines, input_line}
+use Rattle.circuit.specs.Netlists.{input_line}
 use Rattle.description.specs.declared.part.Part.TheVariants.{Circuit}
 use Rattle.runs.specs.Functions.{copy, input}
 use Rattle.runs.specs.Valuations.{line_fn}
 use Rattle.runs.specs.Models.{Model, Valid}
 use Rattle.runs.proofs.Models.{functions_exact}
 use Rattle.making.specs.Models.{width}
-use Rattle.making.specs.Making.{at, upto, Runs, ended, went, Numbered}
+use Rattle.making.specs.Making.{at, Runs, ended, went, Means, Numbered}
 use Rattle.making.specs.Pieces.{variables_list}
 use Rattle.making.specs.Ends.{Ends, plain}
 use Rattle.making.proofs.Steps.{fresh, grown_more, runs_join, runs_grown, variable_answers, gives_last, ends_after}
 use Rattle.making.proofs.Loops.{ends_upto, numbered_more, numbered_kept}
 
-module _ (m : Model) (ok : Valid m) (s : Shown) (wide : width m ≤ s.vars) where
-  -- a variable of the model is one of the store's
-  known : (t : Shown) (k : ℕ) → t.vars ≡ s.vars → k < width m → k < t.vars
-  known t k e l = omega arith
-
+module _ (m : Model) (s : Shown) where
   -- the variables of the first i registers are made
   abbrev pub Registers : Shown → List ℕ → List ℕ → ℕ → Type 0
   Registers t ns cs i = Runs s (variables_list (2 * i)) t × Numbered t ns (line_fn m) (1 + i) × Numbered t cs (λ i. bit (copy i)) i
 
-  module _ (t : Shown) (ns cs : List ℕ) (i : ℕ) (lt : i < m.circuit.registers) (sofar : Registers t ns cs i) where
-    pub register_refused : (u : Shown) (e : Refusal) {X : Type 0} {P : X → Type 0} → MakesVariable t (2 * i) (Err e) u
-        → Ends plain s u (variables_list (2 * m.circuit.registers)) P (Err e)
-    register_refused u e y =
-        ends_upto (λ k. at Circuit 0 (bit k ∷ [])) (suc (2 * i)) (2 * m.circuit.registers) (omega arith)
-        (ends_after sofar.0 (gives_last y.lawful (Err e) (variable_answers y (known t (2 * i) (runs_grown sofar.0).vars (omega arith)))))
+  -- the first x variables are made, with all registers
+  abbrev pub Inputs : Shown → List ℕ → List ℕ → ℕ → Type 0
+  Inputs t ns cs x = Runs s (variables_list x) t × Numbered t ns (line_fn m) (1 + (x - m.circuit.registers)) × Numbered t cs (λ i. bit (copy i)) m.circuit.registers
 
-    module _ (t₁ : Shown) (a : ℕ) (y : MakesVariable t (2 * i) (Ok a) t₁) where
-      made_register : Made t t₁ (bit (2 * i)) a
-      made_register = variable_answers y (known t (2 * i) (runs_grown sofar.0).vars (omega arith))
+  module _ (ok : Valid m) (wide : width m ≤ s.vars) where
+    -- variable x is made after those before it
+    made_next : (t u : Shown) (x a : ℕ) → x < width m → Runs s (variables_list x) t → MakesVariable t x (Ok a) u → Runs s (variables_list (suc x)) u × Made t u (bit x) a
+    made_next t u x a l so y =
+        let k : Made t u (bit x) a = variable_answers y (subst (λ n. x < n) (sym (runs_grown so).vars) (omega (arith, l, wide))) in
+        (runs_join so (went a y.lawful k ended), k)
 
-      runs_register : Runs s (variables_list (2 * i + 1)) t₁
-      runs_register = subst (λ k. Runs s (variables_list k) t₁) (sym (add-one (2 * i))) (runs_join sofar.0 (went a y.lawful made_register ended))
+    pub refused_next : (t u : Shown) (x : ℕ) (e : Refusal) {X : Type 0} {P : X → Type 0} → x < width m → Runs s (variables_list x) t → MakesVariable t x (Err e) u
+        → Ends plain s u (variables_list (width m)) P (Err e)
+    refused_next t u x e l so y =
+        ends_upto (λ k. at Circuit 0 (bit k ∷ [])) (suc x) (width m) l
+        (ends_after so (gives_last y.lawful (Err e) (variable_answers y (subst (λ n. x < n) (sym (runs_grown so).vars) (omega (arith, l, wide))))))
 
-      pub copy_refused : (u : Shown) (e : Refusal) {X : Type 0} {P : X → Type 0} → MakesVariable t₁ (2 * i + 1) (Err e) u
-          → Ends plain s u (variables_list (2 * m.circuit.registers)) P (Err e)
-      copy_refused u e z =
-          ends_upto (λ k. at Circuit 0 (bit k ∷ [])) (suc (2 * i + 1)) (2 * m.circuit.registers) (omega arith)
-          (ends_after runs_register (gives_last z.lawful (Err e) (variable_answers z (known t₁ (2 * i + 1) (runs_grown runs_register).vars (omega arith)))))
+    module _ (t t₁ : Shown) (ns cs : List ℕ) (i a : ℕ) (lt : i < m.circuit.registers) (so : Registers t ns cs i) (y : MakesVariable t (2 * i) (Ok a) t₁) where
+      pub runs_register : Runs s (variables_list (2 * i + 1)) t₁
+      runs_register = subst (λ k. Runs s (variables_list k) t₁) (sym (add-one (2 * i))) (made_next t t₁ (2 * i) a (omega arith) so.0 y).0
 
-      pub registers_more : (u : Shown) (b : ℕ) → MakesVariable t₁ (2 * i + 1) (Ok b) u → lines m.circuit ≤ length ns → i < length cs
-          → Registers u (set ns (1 + i) a) (set cs i b) (i + 1)
-      registers_more u b z room room' =
-          let k : Made t₁ u (bit (2 * i + 1)) b = variable_answers z (known t₁ (2 * i + 1) (runs_grown runs_register).vars (omega arith)) in
+      pub registers_more : (u : Shown) (b : ℕ) → MakesVariable t₁ (2 * i + 1) (Ok b) u → length ns ≡ 1 + i → length cs ≡ i
+          → (ns' cs' : List ℕ) → ns' ≡ ns ++ a ∷ [] → cs' ≡ cs ++ b ∷ [] → Registers u ns' cs' (i + 1)
+      registers_more u b z whole whole' ns' cs' is is' =
+          let j = (made_next t t₁ (2 * i) a (omega arith) so.0 y).1 in
+          let k = made_next t₁ u (2 * i + 1) b (omega arith) runs_register z in
           let e : suc (2 * i + 1) ≡ 2 * (i + 1) = omega arith in
           let d : suc (1 + i) ≡ 1 + (i + 1) = omega arith in
-          let f = fresh made_register in (
-            subst (λ n. Runs s (variables_list n) u) e (runs_join runs_register (went b z.lawful k ended)),
-            subst (λ n. Numbered u (set ns (1 + i) a) (line_fn m) n) d
-                (numbered_kept (set ns (1 + i) a) (line_fn m) (suc (1 + i)) k.grown
-                (numbered_more ns (line_fn m) (1 + i) a sofar.1 made_register.grown
-                (record { held = f.held; same = λ w j. f.same w j ∙ sym ((functions_exact m ok).lined.register i lt w) }) (omega arith))),
-            subst (λ n. Numbered u (set cs i b) (λ i. bit (copy i)) n) (sym (add-one i))
-                (numbered_more cs (λ i. bit (copy i)) i b sofar.2 (grown_more made_register.grown k.grown) (fresh k) room'),
+          let f = fresh j in
+          let new : Means t₁ a (line_fn m (1 + i)) = record { held = f.held; same = λ w l. f.same w l ∙ sym ((functions_exact m ok).lined.register i lt w) } in (
+            subst (λ n. Runs s (variables_list n) u) e k.0,
+            subst (λ xs. Numbered u xs (line_fn m) (1 + (i + 1))) (sym is)
+                (subst (λ n. Numbered u (ns ++ a ∷ []) (line_fn m) n) d
+                (numbered_kept (ns ++ a ∷ []) (line_fn m) (suc (1 + i)) k.1.grown (numbered_more ns (line_fn m) (1 + i) a so.1 j.grown new whole))),
+            subst (λ xs. Numbered u xs (λ i. bit (copy i)) (i + 1)) (sym is')
+                (subst (λ n. Numbered u (cs ++ b ∷ []) (λ i. bit (copy i)) n) (sym (add-one i))
+                (numbered_more cs (λ i. bit (copy i)) i b so.2 (grown_more j.grown k.1.grown) (fresh k.1) whole')),
           )
 
-  -- the variables of the first j inputs are made
-  abbrev pub Inputs : Shown → List ℕ → ℕ → Type 0
-  Inputs t ns j = Runs s (upto j (λ j. at Circuit 0 (bit (input m.circuit.registers j) ∷ []))) t × Numbered t ns (line_fn m) (input_line m.circuit j)
-
-  module _ (t : Shown) (ns : List ℕ) (j : ℕ) (lt : j < m.circuit.inputs) (sofar : Inputs t ns j) where
-    pub input_refused : (u : Shown) (e : Refusal) {X : Type 0} {P : X → Type 0} → MakesVariable t (input m.circuit.registers j) (Err e) u
-        → Ends plain s u (upto m.circuit.inputs (λ j. at Circuit 0 (bit (input m.circuit.registers j) ∷ []))) P (Err e)
-    input_refused u e y =
-        ends_upto (λ j. at Circuit 0 (bit (input m.circuit.registers j) ∷ [])) (suc j) m.circuit.inputs lt
-        (ends_after sofar.0 (gives_last y.lawful (Err e) (variable_answers y (known t (input m.circuit.registers j) (runs_grown sofar.0).vars (omega arith)))))
-
-    pub inputs_more : (u : Shown) (a : ℕ) → MakesVariable t (input m.circuit.registers j) (Ok a) u → lines m.circuit ≤ length ns
-        → Inputs u (set ns (input_line m.circuit j) a) (j + 1)
-    inputs_more u a y room =
-        let k : Made t u (bit (input m.circuit.registers j)) a = variable_answers y (known t (input m.circuit.registers j) (runs_grown sofar.0).vars (omega arith)) in
-        let f = fresh k in
-        let d : suc (input_line m.circuit j) ≡ input_line m.circuit (j + 1) = omega arith in (
-          subst (λ n. Runs s (upto n (λ j. at Circuit 0 (bit (input m.circuit.registers j) ∷ []))) u) (sym (add-one j)) (runs_join sofar.0 (went a y.lawful k ended)),
-          subst (λ n. Numbered u (set ns (input_line m.circuit j) a) (line_fn m) n) d
-              (numbered_more ns (line_fn m) (input_line m.circuit j) a sofar.1 k.grown
-              (record { held = f.held; same = λ w h. f.same w h ∙ sym ((functions_exact m ok).lined.input j lt w) }) (omega arith)),
+    pub inputs_more : (t u : Shown) (ns cs : List ℕ) (x a : ℕ) → 2 * m.circuit.registers ≤ x → x < width m → Inputs t ns cs x → MakesVariable t x (Ok a) u
+        → length ns ≡ 1 + (x - m.circuit.registers) → (ns' : List ℕ) → ns' ≡ ns ++ a ∷ [] → Inputs u ns' cs (x + 1)
+    inputs_more t u ns cs x a low high so y whole ns' is =
+        let k = made_next t u x a high so.0 y in
+        let r = m.circuit.registers in
+        let f = fresh k.1 in
+        let d : suc (1 + (x - r)) ≡ 1 + (x + 1 - r) = omega arith in
+        let c : input r (x - 2 * r) ≡ x = omega arith in
+        let l : input_line m.circuit (x - 2 * r) ≡ 1 + (x - r) = omega arith in
+        let new : Means u a (line_fn m (1 + (x - r))) =
+        subst (λ n. Means u a (line_fn m n)) l
+        (record { held = f.held; same = λ w h. f.same w h ∙ ap (λ n. bit n w) (sym c) ∙ sym ((functions_exact m ok).lined.input (x - 2 * r) (omega arith) w) }) in (
+          subst (λ n. Runs s (variables_list n) u) (sym (add-one x)) k.0,
+          subst (λ xs. Numbered u xs (line_fn m) (1 + (x + 1 - r))) (sym is)
+              (subst (λ n. Numbered u (ns ++ a ∷ []) (line_fn m) n) d (numbered_more ns (line_fn m) (1 + (x - r)) a so.1 k.1.grown new whole)),
+          numbered_kept cs (λ i. bit (copy i)) r k.1.grown so.2,
         )

@@ -11,7 +11,7 @@ use Rattle.runs.specs.Valuations.{claim_fn, next_fn, init_fn, set_fn, back_fn}
 use Rattle.runs.specs.Models.{Model, system}
 use Rattle.runs.specs.Search.{bad}
 use Rattle.making.specs.Models.{width}
-use Rattle.making.specs.Making.{Item, at, Means, Numbered}
+use Rattle.making.specs.Making.{Item, at, Means, Paired}
 use Rattle.making.specs.Pieces.{composed_all_list, quantified_list, negations_list, variables_list, gates_list, operators_list}
 
 -- the first set, from the assumption h and the property p
@@ -54,10 +54,8 @@ advance_list m j =
 -- the numbers that an advance works with are those of the copies, the next values and the assumption, with the negations
 pub record Kept (s : Shown) (k : Parts) (next : ℕ → Fn) (h : Fn) : Type 0 where
   pub wide : 2 * k.n + k.m ≤ s.vars
-  pub copies : Numbered s k.copies (λ i. bit (copy i)) k.n
-  pub uncopies : Numbered s k.uncopies (λ i. negated (bit (copy i))) k.n
-  pub nexts : Numbered s k.nexts next k.n
-  pub unnexts : Numbered s k.unnexts (λ i. negated (next i)) k.n
+  pub copies : Paired s k.copies.items (λ i. bit (copy i)) k.n
+  pub nexts : Paired s k.nexts.items next k.n
   pub assumed : Means s k.assumed h
 
 -- the numbers after a load of a model's circuit, with the assumption h and the property q

@@ -1,8 +1,10 @@
 -- Lists of making calls, and what becomes of a store when such a list is made.
-use Rattle.std.specs.Prelude.{◌≡◌, ℕ, zero, suc, ◌<◌, true, cond, List, [], ◌∷◌, ◌++◌, slice_index}
+use Rattle.std.specs.Prelude.{◌≡◌, ℕ, zero, suc, ◌<◌, true, cond, List, [], ◌∷◌, ◌++◌, slice_index, slice_index_or}
 use Rattle.store.specs.Fun.{Fn, Same}
 use Rattle.store.specs.Meaning.{Shown, Lawful, Made, holds, price, free}
 use Rattle.description.specs.declared.part.Part.{Part}
+use Rattle.runs.specs.Functions.{negated}
+use Rattle.making.specs.declared.parts.Polarities.{Polarities}
 
 -- a making call, by its result, with the part and the place of its refusal
 pub record Item : Type 0 where
@@ -38,6 +40,18 @@ pub record Means (s : Shown) (a : ℕ) (f : Fn) : Type 0 where
 -- the lowest n numbers are those of the functions f 0 to f (n - 1)
 abbrev pub Numbered : Shown → List ℕ → (ℕ → Fn) → ℕ → Type 0
 Numbered s numbers f n = (i : ℕ) → i < n → Means s (slice_index numbers i) (f i)
+
+-- the two numbers are those of f and of its negation
+pub record Polar (s : Shown) (p : Polarities) (f : Fn) : Type 0 where
+  pub function : Means s p.function f
+  pub negation : Means s p.negation (negated f)
+
+abbrev pub unpaired : Polarities
+unpaired = record { function = 0; negation = 0 }
+
+-- the lowest n pairs are those of the functions f 0 to f (n - 1)
+abbrev pub Paired : Shown → List Polarities → (ℕ → Fn) → ℕ → Type 0
+Paired s pairs f n = (i : ℕ) → i < n → Polar s (slice_index_or pairs i unpaired) (f i)
 
 -- every result of the list is held
 pub data Held (t : Shown) : List Item → Type 0 where

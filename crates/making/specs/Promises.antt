@@ -1,38 +1,40 @@
 -- What the parts of the builder promise one another: s is what the store shows before, and t after.
 use Rattle.std.specs.Prelude.{◌≡◌, ℕ, ◌+◌, ◌*◌, ◌/◌, ◌<◌, ◌≤◌, true, false, List, [], ◌∷◌, ◌++◌, length, Result, slice_index}
+use Rattle.arrayvec.specs.ArrayVec.{ArrayVec}
 use Rattle.store.specs.declared.refusal.Refusal.{Refusal}
 use Rattle.store.specs.Fun.{Fn, bit, fix}
 use Rattle.store.specs.Meaning.{Shown, Lawful}
 use Rattle.circuit.specs.declared.gate.Gate.{Gate}
-use Rattle.circuit.specs.Netlists.{Netlist, lines, input_line, gate_line}
+use Rattle.circuit.specs.Netlists.{Netlist, lines, gate_line}
 use Rattle.claim.specs.declared.code.Act.{Act}
 use Rattle.claim.specs.declared.code.Code.{Code}
 use Rattle.claim.specs.Grammar.{Tree, post, Known}
 use Rattle.description.specs.declared.part.Part.{Part}
-use Rattle.description.specs.declared.part.Part.TheVariants.{Circuit}
 use Rattle.making.specs.declared.fault.Fault.{Fault}
+use Rattle.making.specs.declared.lines.Lines.{Lines}
+use Rattle.making.specs.declared.parts.Polarities.{Polarities}
 use Rattle.making.specs.declared.parts.Parts.{Parts}
 use Rattle.making.specs.declared.parts.Built.{Built}
-use Rattle.runs.specs.Functions.{copy, input, negated, both, either, composed, composed_all, quantified, first_of, back_of}
+use Rattle.runs.specs.Functions.{copy, both, either, composed, composed_all, quantified, first_of, back_of}
 use Rattle.runs.specs.Valuations.{literal_fn, line_fn, claim_fn, next_fn, init_fn}
 use Rattle.runs.specs.Models.{Model, sizes}
 use Rattle.making.specs.Models.{model, width}
-use Rattle.making.specs.Making.{at, upto, Means, Numbered}
+use Rattle.making.specs.Making.{at, Means, Numbered, Polar, Paired}
 use Rattle.making.specs.Pieces.{composed_list, composed_all_list, halves_list, quantified_list, negations_list, variables_list, literal_list, gate_list, gates_list, operators_list}
 use Rattle.making.specs.Loads.{first_list, start_list, load_list, back_list, Kept, Loaded}
 use Rattle.making.specs.Ends.{Ends, plain, located, Gives}
 use Rattle.making.specs.Stacks.{Standing, Acts}
 
--- number a with b put for variable x, where c is not b
-abbrev pub Composes : Shown → ℕ → ℕ → ℕ → ℕ → Result ℕ Refusal → Shown → Type 0
-Composes s a x b c r t = (p : Part) (l : ℕ) (f g : Fn) → Means s a f → Means s b g → Means s c (negated g) → x < s.vars
+-- number a with b put for variable x
+abbrev pub Composes : Shown → ℕ → ℕ → Polarities → Result ℕ Refusal → Shown → Type 0
+Composes s a x b r t = (p : Part) (l : ℕ) (f g : Fn) → Means s a f → Polar s b g → x < s.vars
     → Gives plain s t (at p l (composed_list x g f)) (composed x g f) r
 
--- that for the variables first + 2i, for each i below n
-abbrev pub ComposesAll : Shown → ℕ → ℕ → List ℕ → List ℕ → ℕ → Result ℕ Refusal → Shown → Type 0
-ComposesAll s a first bs cs n r t = (p : Part) (l : ℕ) (x : ℕ → ℕ) (f : Fn) (g : ℕ → Fn) → ((i : ℕ) → i < n → first + 2 * i ≡ x i)
-    → Means s a f → Numbered s bs g n → Numbered s cs (λ i. negated (g i)) n → ((i : ℕ) → i < n → x i < s.vars)
-    → Gives plain s t (composed_all_list p l x g f n) (composed_all x g f n) r
+-- that for the variables first + 2i, for each of the pairs
+abbrev pub ComposesAll : Shown → ℕ → ℕ → List Polarities → Result ℕ Refusal → Shown → Type 0
+ComposesAll s a first bs r t = (p : Part) (l : ℕ) (x : ℕ → ℕ) (f : Fn) (g : ℕ → Fn) → ((i : ℕ) → first + 2 * i ≡ x i)
+    → Means s a f → Paired s bs g (length bs) → ((i : ℕ) → i < length bs → x i < s.vars)
+    → Gives plain s t (composed_all_list p l x g f (length bs)) (composed_all x g f (length bs)) r
 
 abbrev pub Halves : Shown → ℕ → ℕ → Result ℕ Refusal → Shown → Type 0
 Halves s a x r t = (p : Part) (l : ℕ) (f : Fn) → Means s a f → x < s.vars → Gives plain s t (at p l (halves_list x f)) (either (fix x false f) (fix x true f)) r
@@ -40,9 +42,10 @@ Halves s a x r t = (p : Part) (l : ℕ) (f : Fn) → Means s a f → x < s.vars 
 abbrev pub Quantifies : Shown → ℕ → ℕ → ℕ → Result ℕ Refusal → Shown → Type 0
 Quantifies s a x m r t = (p : Part) (l : ℕ) (f : Fn) → Means s a f → x + m ≤ s.vars → Gives plain s t (quantified_list p l x f m) (quantified x f m) r
 
-abbrev pub Negates : Shown → List ℕ → ℕ → Result (List ℕ) Refusal → Shown → Type 0
-Negates s bs n r t = (p : Part) (l : ℕ) (f : ℕ → Fn) → Lawful s → Numbered s bs f n
-    → Ends plain s t (negations_list p l f n) (λ cs. Lawful t × Numbered t cs (λ i. negated (f i)) n) r
+-- each of the functions with its negation
+abbrev pub Negates : Shown → List ℕ → Result (ArrayVec Polarities) Refusal → Shown → Type 0
+Negates s bs r t = (p : Part) (l : ℕ) (f : ℕ → Fn) → Lawful s → Numbered s bs f (length bs)
+    → Ends plain s t (negations_list p l f (length bs)) (λ ps. Lawful t × Paired t ps.items f (length bs)) r
 
 abbrev pub Literally : Shown → List ℕ → ℕ → Result ℕ Refusal → Shown → Type 0
 Literally s numbers x r t = (p : Part) (l : ℕ) (f : ℕ → Fn) → Means s (slice_index numbers (x / 2)) (f (x / 2))
@@ -52,15 +55,10 @@ abbrev pub GatesOne : Shown → List ℕ → Gate → Result ℕ Refusal → Sho
 GatesOne s numbers g r t = (p : Part) (l : ℕ) (f : ℕ → Fn) → Means s (slice_index numbers (g.left / 2)) (f (g.left / 2)) → Means s (slice_index numbers (g.right / 2)) (f (g.right / 2))
     → Ends plain s t (at p l (gate_list f g)) (λ a. Lawful t × Means t a (both (literal_fn f g.left) (literal_fn f g.right))) r
 
--- line 0 is there; then the registers and their copies are, too
-abbrev pub MakesRegisters : Shown → Model → List ℕ → Result (Unit {0}) Refusal → List ℕ → List ℕ → Shown → Type 0
-MakesRegisters s m before r after copies t = width m ≤ s.vars → Numbered s before (line_fn m) 1
-    → Ends plain s t (variables_list (2 * m.circuit.registers)) (λ _. Numbered t after (line_fn m) (input_line m.circuit 0) × Numbered t copies (λ i. bit (copy i)) m.circuit.registers) r
-
--- the inputs are there, too
-abbrev pub MakesInputs : Shown → Model → List ℕ → Result (Unit {0}) Refusal → List ℕ → Shown → Type 0
-MakesInputs s m before r after t = width m ≤ s.vars → Numbered s before (line_fn m) (input_line m.circuit 0)
-    → Ends plain s t (upto m.circuit.inputs (λ j. at Circuit 0 (bit (input m.circuit.registers j) ∷ []))) (λ _. Numbered t after (line_fn m) (gate_line m.circuit 0)) r
+-- line 0 is there; then the registers, the inputs and the copies are, too
+abbrev pub MakesVariables : Shown → Model → List ℕ → Result (ArrayVec ℕ) Refusal → List ℕ → Shown → Type 0
+MakesVariables s m before r after t = width m ≤ s.vars → Numbered s before (line_fn m) 1
+    → Ends plain s t (variables_list (width m)) (λ copies. Numbered t after (line_fn m) (gate_line m.circuit 0) × Numbered t copies.items (λ i. bit (copy i)) m.circuit.registers) r
 
 -- the numbers of the lines before the gates are there; those of the gates are then, too
 abbrev pub GatesAll : Shown → Model → List ℕ → Result (Unit {0}) Fault → List ℕ → Shown → Type 0
@@ -68,15 +66,15 @@ GatesAll s m before r after t = Numbered s before (line_fn m) (gate_line m.circu
     → Ends located s t (gates_list m (length m.circuit.gates)) (λ _. Lawful t × Numbered t after (line_fn m) (lines m.circuit)) r
 
 -- all lines and the copies
-abbrev pub MakesLines : Shown → Model → List ℕ → Result (Unit {0}) Fault → List ℕ → List ℕ → Shown → Type 0
-MakesLines s m before r after copies t = width m ≤ s.vars → Numbered s before (line_fn m) 1
+abbrev pub MakesLines : Shown → Model → Result Lines Fault → Shown → Type 0
+MakesLines s m r t = Lawful s → width m ≤ s.vars
     → Ends located s t (variables_list (width m) ++ gates_list m (length m.circuit.gates))
-    (λ _. Lawful t × Numbered t after (line_fn m) (lines m.circuit) × Numbered t copies (λ i. bit (copy i)) m.circuit.registers) r
+    (λ made. Lawful t × Numbered t made.numbers.items (line_fn m) (lines m.circuit) × Numbered t made.copies.items (λ i. bit (copy i)) m.circuit.registers) r
 
--- one act on a stack of this height
-abbrev pub ActsOn : Shown → Model → Act → List ℕ → List ℕ → ℕ → Result ℕ Refusal → List ℕ → Shown → Type 0
-ActsOn s m act numbers stack high r stack' t = (p : Part) (l : ℕ) (fs gs k : List Fn) → Numbered s numbers (line_fn m) (lines m.circuit) → Standing s stack high fs → Acts m act fs k gs
-    → Ends plain s t (at p l k) (λ h. Standing t stack' h gs) r
+-- one act on a stack, whose result is not pushed yet
+abbrev pub ActsOn : Shown → Model → Act → List ℕ → List ℕ → Result ℕ Refusal → List ℕ → Shown → Type 0
+ActsOn s m act numbers stack r stack' t = (p : Part) (l : ℕ) (fs gs k : List Fn) → Numbered s numbers (line_fn m) (lines m.circuit) → Standing s stack fs → Acts m act fs k gs
+    → Ends plain s t (at p l k) (λ a. Standing t (stack' ++ a ∷ []) gs) r
 
 abbrev pub MakesClaim : Shown → Part → Model → List Code → List ℕ → Result ℕ Fault → Shown → Type 0
 MakesClaim s part m codes numbers r t = (h : Tree) → codes ≡ post h → Known (sizes m.circuit) h → Lawful s → Numbered s numbers (line_fn m) (lines m.circuit)

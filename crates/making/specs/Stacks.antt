@@ -1,5 +1,5 @@
 -- What codes do to a stack of functions.
-use Rattle.std.specs.Prelude.{◌≡◌, ℕ, suc, ◌<◌, Bool, List, [], ◌∷◌, ◌++◌, slice_index}
+use Rattle.std.specs.Prelude.{◌≡◌, ℕ, ◌<◌, Bool, List, [], ◌∷◌, ◌++◌}
 use Rattle.store.specs.Fun.{Fn}
 use Rattle.store.specs.Meaning.{Shown, Lawful}
 use Rattle.claim.specs.declared.code.Sort.{Sort}
@@ -13,14 +13,14 @@ use Rattle.runs.specs.Valuations.{claim_fn}
 use Rattle.runs.specs.Models.{Model, sizes}
 use Rattle.making.specs.Making.{Item, at, Means, Runs}
 
--- the functions of the lowest entries of the stack, the top first
-pub data Stacked (s : Shown) (stack : List ℕ) : ℕ → List Fn → Type 0 where
-  bare : Stacked s stack 0 []
-  on : {h : ℕ} {f : Fn} {fs : List Fn} → Means s (slice_index stack h) f → Stacked s stack h fs → Stacked s stack (suc h) (f ∷ fs)
+-- the functions of the entries of the stack, the top first
+pub data Stacked (s : Shown) : List ℕ → List Fn → Type 0 where
+  bare : Stacked s [] []
+  on : {stack below : List ℕ} {a : ℕ} {f : Fn} {fs : List Fn} → stack ≡ below ++ a ∷ [] → Means s a f → Stacked s below fs → Stacked s stack (f ∷ fs)
 
-pub record Standing (t : Shown) (stack : List ℕ) (h : ℕ) (fs : List Fn) : Type 0 where
+pub record Standing (t : Shown) (stack : List ℕ) (fs : List Fn) : Type 0 where
   pub lawful : Lawful t
-  pub stacked : Stacked t stack h fs
+  pub stacked : Stacked t stack fs
 
 -- what an act makes of a stack of functions, and the calls that it takes
 pub data Acts (m : Model) : Act → List Fn → List Fn → List Fn → Type 0 where
@@ -36,11 +36,11 @@ pub data Walks (m : Model) (part : Part) : List Code → List Fn → List Item �
   w_step : {x : Code} {xs : List Code} {fs gs hs l : List Fn} {k : List Item} → Acts m x.act fs l gs → Walks m part xs gs k hs → Walks m part (x ∷ xs) fs (at part x.place l ++ k) hs
 
 -- part of a list of codes is walked
-pub record Going (m : Model) (part : Part) (s t : Shown) (stack : List ℕ) (high : ℕ) (left : List Code) (all : List Item) (end : List Fn) : Type 0 where
+pub record Going (m : Model) (part : Part) (s t : Shown) (stack : List ℕ) (left : List Code) (all : List Item) (end : List Fn) : Type 0 where
   pub done : List Item
   pub rest : List Item
   pub on_stack : List Fn
   pub runs : Runs s done t
-  pub standing : Standing t stack high on_stack
+  pub standing : Standing t stack on_stack
   pub walks : Walks m part left on_stack rest end
   pub together : all ≡ done ++ rest

@@ -1,79 +1,55 @@
 // Claims over the lines of a circuit.
-ghost use Rattle.std.specs.Prelude.{◌≡◌, ◌+◌, ◌<◌, ◌≤◌, length, IfOk, slice_index};
+ghost use Rattle.std.specs.Prelude.{◌≡◌, ℕ, ◌≤◌, List, [], ◌∷◌, ◌++◌, length};
 ghost use Rattle.circuit.specs.Reading.{netlist};
-ghost use Rattle.runs.specs.Valuations.{name_line};
 ghost use Rattle.making.specs.Models.{alone};
 ghost use Rattle.making.specs.Promises.{ActsOn, MakesClaim};
 
 use crate::fault::Fault;
+use crate::lines::Lines;
 use crate::places::place_at;
-use circuit::circuit::Circuit;
-use claim::code::{Act, Code, Sort};
+use arrayvec::ArrayVec;
+use claim::code::{Act, Code};
 use description::part::Part;
 use store::Store;
 use store::refusal::Refusal;
 
-fn line_of(circuit: &Circuit, sort: Sort, i: u16) -> usize
-    ensures { result ≡ name_line (netlist circuit.now) sort i }
+// The operands of a claim, at most one for each code.
+type Stack = ArrayVec<u16, 512>;
+
+// Takes the top of the stack, or 0 if it is empty.
+fn pop(stack: &mut Stack) -> u16
+    ensures top { (below : List ℕ) (a : ℕ) → stack.old.items ≡ below ++ a ∷ [] → (result ≡ a) × (stack.new.items ≡ below) }
+    ensures lower { length stack.new.items ≤ length stack.old.items }
 {
-    let n = circuit.registers() as usize;
-    let m = circuit.inputs() as usize;
-    match sort {
-        Sort::Register => 1 + i as usize,
-        Sort::Input => 1 + n + i as usize,
-        Sort::Gate => 1 + n + m + i as usize,
-    }
+    stack.pop().unwrap_or(0)
 }
 
-// The number of a line, or 0 if there is no such line.
-fn number_at(numbers: &[u16], line: usize) -> u16
-    ensures { result ≡ slice_index numbers.now line }
-{
-    if line < numbers.len() {
-        numbers[line]
-    } else {
-        0
-    }
-}
-
-// One act on the lowest `high` entries of the stack: how many there are then.
+// The number of an act's function. Its operands leave the stack.
 fn act_on<S: Store>(
     store: &mut S,
-    circuit: &Circuit,
+    lines: &Lines,
     act: Act,
-    numbers: &[u16],
-    stack: &mut [u16],
-    high: usize,
-) -> Result<usize, Refusal>
-    requires { high < length stack.old }
-    ensures high { IfOk result (λ h. h ≤ high + 1) }
-    ensures acts { ActsOn (S.Store.shows store.old) (alone (netlist circuit.now)) act numbers.now stack.old high result stack.new (S.Store.shows store.new) }
+    stack: &mut Stack,
+) -> Result<u16, Refusal>
+    ensures lower { length stack.new.items ≤ length stack.old.items }
+    ensures acts { ActsOn (S.Store.shows store.old) (alone (netlist lines.now.circuit.now)) act lines.now.numbers.items stack.old.items result stack.new.items (S.Store.shows store.new) }
 {
-    let top = high.saturating_sub(1);
-    let below = high.saturating_sub(2);
     match act {
-        Act::Constant(value) => {
-            stack[high] = value as u16;
-            Ok(high + 1)
-        }
-        Act::Name(sort, i) => {
-            stack[high] = number_at(numbers, line_of(circuit, sort, i));
-            Ok(high + 1)
-        }
+        Act::Constant(value) => Ok(value as u16),
+        Act::Name(sort, i) => Ok(lines.named(sort, i)),
         Act::Not => {
-            let a = store.not(stack[top])?;
-            stack[top] = a;
-            Ok(high)
+            let a = pop(stack);
+            store.not(a)
         }
         Act::And => {
-            let a = store.and(stack[below], stack[top])?;
-            stack[below] = a;
-            Ok(top)
+            let b = pop(stack);
+            let a = pop(stack);
+            store.and(a, b)
         }
         Act::Or => {
-            let a = store.or(stack[below], stack[top])?;
-            stack[below] = a;
-            Ok(top)
+            let b = pop(stack);
+            let a = pop(stack);
+            store.or(a, b)
         }
     }
 }
@@ -82,21 +58,17 @@ fn act_on<S: Store>(
 pub(crate) fn make_claim<S: Store>(
     store: &mut S,
     part: Part,
-    circuit: &Circuit,
+    lines: &Lines,
     codes: &[Code],
-    numbers: &[u16],
 ) -> Result<u16, Fault>
     requires { length codes.now ≤ 512 }
-    ensures { MakesClaim (S.Store.shows store.old) part (alone (netlist circuit.now)) codes.now numbers.now result (S.Store.shows store.new) }
+    ensures { MakesClaim (S.Store.shows store.old) part (alone (netlist lines.now.circuit.now)) codes.now lines.now.numbers.items result (S.Store.shows store.new) }
 {
-    let mut stack = [0; 513];
-    let mut high = 0;
+    let mut stack = Stack::new();
     for code in codes {
-        high = place_at(
-            act_on(store, circuit, code.act, numbers, &mut stack, high),
-            part,
-            code.place,
-        )?;
+        let made = act_on(store, lines, code.act, &mut stack);
+        let number = place_at(made, part, code.place)?;
+        stack.push(number);
     }
-    Ok(stack[0])
+    Ok(pop(&mut stack))
 }

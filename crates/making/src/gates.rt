@@ -1,11 +1,12 @@
 // The gates of a circuit.
-ghost use Rattle.std.specs.Prelude.{◌/◌, ◌<◌, ◌≤◌, length};
-ghost use Rattle.circuit.specs.Netlists.{lines};
+ghost use Rattle.std.specs.Prelude.{◌≡◌, ◌/◌, ◌<◌, length, OnOk};
+ghost use Rattle.circuit.specs.Netlists.{gate_line, lines};
 ghost use Rattle.circuit.specs.Reading.{netlist};
 ghost use Rattle.making.specs.Models.{alone};
 ghost use Rattle.making.specs.Promises.{Literally, GatesOne, GatesAll};
 
 use crate::fault::Fault;
+use crate::lines::Numbers;
 use crate::places::place_at;
 use circuit::circuit::Circuit;
 use circuit::gate::Gate;
@@ -36,20 +37,16 @@ fn conjunction<S: Store>(store: &mut S, numbers: &[u16], gate: Gate) -> Result<u
 pub(crate) fn make_gates<S: Store>(
     store: &mut S,
     circuit: &Circuit,
-    numbers: &mut [u16],
+    numbers: &mut Numbers,
 ) -> Result<(), Fault>
-    requires { lines (netlist circuit.now) ≤ length numbers.old }
-    ensures { GatesAll (S.Store.shows store.old) (alone (netlist circuit.now)) numbers.old result numbers.new (S.Store.shows store.new) }
+    requires { length numbers.old.items ≡ gate_line (netlist circuit.now) 0 }
+    ensures whole { OnOk result (length numbers.new.items ≡ lines (netlist circuit.now)) }
+    ensures gates { GatesAll (S.Store.shows store.old) (alone (netlist circuit.now)) numbers.old.items result numbers.new.items (S.Store.shows store.new) }
 {
-    let first = 1 + circuit.registers() as usize + circuit.inputs() as usize;
-    let gates = circuit.gates();
-    for g in 0..gates.len() {
-        let a = place_at(
-            conjunction(store, numbers, gates[g]),
-            Part::Circuit,
-            g as u16,
-        )?;
-        numbers[first + g] = a;
+    for (g, gate) in circuit.gates().iter().enumerate() {
+        let made = conjunction(store, numbers, *gate);
+        let number = place_at(made, Part::Circuit, g as u16)?;
+        numbers.push(number);
     }
     Ok(())
 }

@@ -20,8 +20,8 @@ pub(crate) fn quantify<S: Store>(store: &mut S, a: u16, first: u8, m: u8) -> Res
     ensures { Quantifies (S.Store.shows store.old) a first m result (S.Store.shows store.new) }
 {
     let mut f = a;
-    for j in 0..m {
-        f = halves(store, f, first + j)?;
+    for x in first..first + m {
+        f = halves(store, f, x)?;
     }
     Ok(f)
 }

@@ -6,6 +6,7 @@ pub mod fault;
 mod gates;
 mod inputs;
 mod laws;
+mod lines;
 mod load;
 mod negations;
 pub mod parts;

@@ -1,19 +1,27 @@
-// The negations of several functions.
-ghost use Rattle.std.specs.Prelude.{◌≤◌, length};
+// Functions with their negations.
+ghost use Rattle.std.specs.Prelude.{◌≡◌, ◌≤◌, length, IfOk};
 ghost use Rattle.making.specs.Promises.{Negates};
 
+use crate::parts::Polarities;
+use arrayvec::ArrayVec;
 use store::Store;
 use store::refusal::Refusal;
 
-pub(crate) fn negations<S: Store>(store: &mut S, of: &[u16], n: u8) -> Result<[u16; 8], Refusal>
-    requires few { n ≤ 8 }
-    requires within { n ≤ length of.now }
-    ensures { Negates (S.Store.shows store.old) of.now n result (S.Store.shows store.new) }
+pub(crate) fn with_negations<S: Store>(
+    store: &mut S,
+    functions: &[u16],
+) -> Result<ArrayVec<Polarities, 8>, Refusal>
+    requires { length functions.now ≤ 8 }
+    ensures each { IfOk result (λ ps. length ps.items ≡ length functions.now) }
+    ensures negates { Negates (S.Store.shows store.old) functions.now result (S.Store.shows store.new) }
 {
-    let mut numbers = [0; 8];
-    for i in 0..n {
-        let a = store.not(of[i as usize])?;
-        numbers[i as usize] = a;
+    let mut pairs = ArrayVec::new();
+    for function in functions {
+        let negation = store.not(*function)?;
+        pairs.push(Polarities {
+            function: *function,
+            negation,
+        });
     }
-    Ok(numbers)
+    Ok(pairs)
 }

@@ -1,23 +1,33 @@
-ghost use Rattle.std.specs.Prelude.{◌≤◌};
+ghost use Rattle.std.specs.Prelude.{◌≡◌, ◌≤◌, length};
 
-// The numbers that an advance works with: of the registers' copies, the next values and their negations, and of the claims and Init.
-#[derive(Clone, Copy)]
+use arrayvec::ArrayVec;
+
+// The numbers of a function and of its negation.
+#[derive(Clone, Copy, Default)]
+pub struct Polarities {
+    pub function: u16,
+    pub negation: u16,
+}
+
+// The numbers that an advance works with: of the registers' copies, the next values, the claims and Init.
+#[derive(Drop)]
 pub struct Parts {
+    // How many registers and inputs, in the type that variables are counted in, which the lists' length is not.
     pub n: u8,
     pub m: u8,
-    pub copies: [u16; 8],
-    pub uncopies: [u16; 8],
-    pub nexts: [u16; 8],
-    pub unnexts: [u16; 8],
+    pub copies: ArrayVec<Polarities, 8>,
+    pub nexts: ArrayVec<Polarities, 8>,
     pub assumed: u16,
     pub property: u16,
     pub init: u16,
     ghost registers: { n ≤ 8 },
     ghost inputs: { m ≤ 8 },
+    ghost copied: { length copies.items ≡ n },
+    ghost led: { length nexts.items ≡ n },
 }
 
 // What a load leaves: besides, the numbers of the first set and of its part in Init.
-#[derive(Clone, Copy)]
+#[derive(Drop)]
 pub struct Built {
     pub parts: Parts,
     pub set: u16,

@@ -1,14 +1,13 @@
 // The first set, and what an advance takes besides.
-ghost use Rattle.std.specs.Prelude.{◌≡◌, ℕ, ◌<◌, ◌≤◌, length, slice_index};
-ghost use Rattle.circuit.specs.Netlists.{lines, next_line, init_line};
+ghost use Rattle.std.specs.Prelude.{◌≤◌};
 ghost use Rattle.circuit.specs.Reading.{netlist};
 ghost use Rattle.making.specs.Models.{alone};
 ghost use Rattle.making.specs.Promises.{MakesFirst, MakesStart};
 
 use crate::inputs::quantify;
-use crate::negations::negations;
+use crate::lines::Lines;
+use crate::negations::with_negations;
 use crate::parts::{Built, Parts};
-use circuit::circuit::Circuit;
 use store::Store;
 use store::refusal::Refusal;
 
@@ -29,53 +28,26 @@ fn first_set<S: Store>(
     quantify(store, allowed, 2 * n, m)
 }
 
-// The number of Init, the last line.
-fn init_number(circuit: &Circuit, numbers: &[u16]) -> u16
-    requires { lines (netlist circuit.now) ≤ length numbers.now }
-    ensures { result ≡ slice_index numbers.now (init_line (netlist circuit.now)) }
-{
-    numbers[circuit.registers() as usize + circuit.inputs() as usize + circuit.gates().len()]
-}
-
-// The numbers of the next values, on the lines before Init.
-fn next_numbers(circuit: &Circuit, numbers: &[u16]) -> [u16; 8]
-    requires { lines (netlist circuit.now) ≤ length numbers.now }
-    ensures { (i : ℕ) → i < (netlist circuit.now).registers → slice_index result i ≡ slice_index numbers.now (next_line (netlist circuit.now) i) }
-{
-    let first = circuit.inputs() as usize + circuit.gates().len();
-    let mut nexts = [0; 8];
-    for i in 0..circuit.registers() as usize {
-        nexts[i] = numbers[first + i];
-    }
-    nexts
-}
-
 pub(crate) fn make_start<S: Store>(
     store: &mut S,
-    circuit: &Circuit,
-    numbers: &[u16],
-    copies: [u16; 8],
+    lines: &Lines,
     assumed: u16,
     property: u16,
 ) -> Result<Built, Refusal>
-    requires { lines (netlist circuit.now) ≤ length numbers.now }
-    ensures { MakesStart (S.Store.shows store.old) (alone (netlist circuit.now)) numbers.now copies assumed property result (S.Store.shows store.new) }
+    ensures { MakesStart (S.Store.shows store.old) (alone (netlist lines.now.circuit.now)) lines.now.numbers.items lines.now.copies.items assumed property result (S.Store.shows store.new) }
 {
-    let n = circuit.registers();
-    let m = circuit.inputs();
-    let init = init_number(circuit, numbers);
-    let nexts = next_numbers(circuit, numbers);
+    let n = lines.circuit.registers();
+    let m = lines.circuit.inputs();
+    let init = lines.init();
     let set = first_set(store, n, m, assumed, property)?;
     let met = store.and(set, init)?;
-    let uncopies = negations(store, &copies, n)?;
-    let unnexts = negations(store, &nexts, n)?;
+    let copies = with_negations(store, &lines.copies)?;
+    let nexts = with_negations(store, lines.nexts())?;
     let parts = Parts {
         n,
         m,
         copies,
-        uncopies,
         nexts,
-        unnexts,
         assumed,
         property,
         init,

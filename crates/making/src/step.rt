@@ -14,11 +14,9 @@ pub fn back<S: Store>(store: &mut S, from: u16, parts: &Parts) -> Result<u16, Re
     ensures lawful { OnOk result (Lawful (S.Store.shows store.new)) }
     ensures gives { StepsBack (S.Store.shows store.old) from parts.now result (S.Store.shows store.new) }
 {
-    let n = parts.n;
-    let m = parts.m;
-    let copied = compose_all(store, from, 0, &parts.copies, &parts.uncopies, n)?;
-    let led = compose_all(store, copied, 1, &parts.nexts, &parts.unnexts, n)?;
+    let copied = compose_all(store, from, 0, &parts.copies)?;
+    let led = compose_all(store, copied, 1, &parts.nexts)?;
     let allowed = store.and(led, parts.assumed)?;
-    let some = quantify(store, allowed, 2 * n, m)?;
+    let some = quantify(store, allowed, 2 * parts.n, parts.m)?;
     store.or(some, from)
 }

@@ -1,38 +1,14 @@
-use Rattle.std.proofs.Common.{sym, arith}
+use Rattle.std.proofs.Common.{sym, ap, ◌∙◌, subst}
+use Rattle.std.proofs.lemmas.Result.{IfOk-weaker}
+use Rattle.circuit.specs.Netlists.{sizes}
+use Rattle.circuit.specs.Reading.{netlist}
+use Rattle.circuit.specs.Steps.{InRange}
 use Rattle.circuit.proofs.Lines.{determined}
-use Rattle.circuit.proofs.Whole.{counted, refused, accepted, sound}
+use Rattle.circuit.proofs.Passing.{says_sizes}
 use Rattle.circuit.proofs.read.Goals as goal
 
-pub returns-then-init_touches : goal.returns-then-init_touches
-returns-then-init_touches c =
-    record {
-      reads = sym (refused c.args.file.now c.in_ok-sizes.sizes c.in_ok-sizes.ensures c.args.width
-          (omega (arith, c.if-file-sizes.false)) (omega (arith, c.if-width-needed.false))
-          c.read_gates-gates.result c.read_gates-gates.ensures c.in_ok-check_wires.ensures (sym c.if-init_touches.ensures));
-      sound = tt;
-      determined = tt;
-    }
+pub checked-requires : goal.checked-requires
+checked-requires c = subst InRange (c.in_ok-sizes.ensures.are ∙ sym (says_sizes c.args.file.now) ∙ ap sizes (sym c.read.ensures)) c.in_ok-sizes.ensures.ranged
 
-pub invariant_of-result : goal.invariant_of-result
-invariant_of-result c = record {
-  few = omega (arith, c.in_ok-sizes.ensures.few_gates);
-  counted = counted c.args.file.now c.in_ok-sizes.sizes c.in_ok-sizes.ensures c.args.width
-      (omega (arith, c.if-file-sizes.false)) (omega (arith, c.if-width-needed.false))
-      c.read_gates-gates.result c.read_gates-gates.ensures c.in_ok-check_wires.ensures;
-  sound = ∣ sound c.args.file.now c.in_ok-sizes.sizes c.in_ok-sizes.ensures c.args.width
-      (omega (arith, c.if-file-sizes.false)) (omega (arith, c.if-width-needed.false))
-      c.read_gates-gates.result c.read_gates-gates.ensures c.in_ok-check_wires.ensures (sym c.if-init_touches.ensures) ∣₁;
-}
-
-pub returns : goal.returns
-returns c =
-    let s = sound c.args.file.now c.in_ok-sizes.sizes c.in_ok-sizes.ensures c.args.width
-    (omega (arith, c.if-file-sizes.false)) (omega (arith, c.if-width-needed.false))
-    c.read_gates-gates.result c.read_gates-gates.ensures c.in_ok-check_wires.ensures (sym c.if-init_touches.ensures) in
-    record {
-      reads = sym (accepted c.args.file.now c.in_ok-sizes.sizes c.in_ok-sizes.ensures c.args.width
-          (omega (arith, c.if-file-sizes.false)) (omega (arith, c.if-width-needed.false))
-          c.read_gates-gates.result c.read_gates-gates.ensures c.in_ok-check_wires.ensures (sym c.if-init_touches.ensures));
-      sound = s;
-      determined = determined _ s;
-    }
+pub returns-clause-determined : goal.returns-clause-determined
+returns-clause-determined c = IfOk-weaker c.checked.result _ _ (λ k. determined (netlist k)) c.checked.ensures.sound

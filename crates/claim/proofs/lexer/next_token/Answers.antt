@@ -1,15 +1,22 @@
-use Rattle.std.proofs.Common.{arith}
-use Rattle.claim.proofs.Lexing.{after_space, lexed_mark, lexed_name, lexed_end}
+use Rattle.std.proofs.Common.{sym, ap, ◌∙◌, arith}
+use Rattle.claim.specs.Tokens.{class}
+use Rattle.claim.proofs.Lexing.{past_spaces, no_space, lexed_mark, lexed_name, lexed_end}
 use Rattle.claim.proofs.lexer.next_token.Goals as goal
 
-pub loop-place-preserved : goal.loop-place-preserved
-loop-place-preserved c = (omega arith, omega arith, after_space _ _ _ c.loop-place.invariant.0 c.loop-place-test.true c.loop-place.invariant.2 c.in-Space.ensures)
+pub class_of-requires : goal.class_of-requires
+class_of-requires c =
+    let at = c.in-Some.ensures.lookup.3 in
+    λ e. no_space _ _ _ c.count_spaces.ensures.count at.0 (sym (at.1 0) ∙ e)
+
+pub returns-in_default : goal.returns-in_default
+returns-in_default c = lexed_end _ _ _ (omega arith) (omega arith) c.in_default.ensures.lookup.3 (past_spaces _ _ _ c.count_spaces.ensures.count)
 
 pub returns-in-Mark : goal.returns-in-Mark
-returns-in-Mark c = lexed_mark _ _ _ c.loop-place.invariant.0 c.loop-place-test.true c.loop-place.invariant.2 _ c.in-Mark.ensures
+returns-in-Mark c =
+    let at = c.in-Some.ensures.lookup.3 in
+    lexed_mark _ _ _ (omega arith) at.0 (past_spaces _ _ _ c.count_spaces.ensures.count) _ (c.in-Mark.ensures ∙ ap class (at.1 0))
 
 pub returns-in-Letter : goal.returns-in-Letter
-returns-in-Letter c = lexed_name _ _ _ c.loop-place.invariant.0 c.loop-place-test.true c.loop-place.invariant.2 _ _ _ c.in-Letter.ensures c.leading_digits-digits.ensures c.name-token.ensures
-
-pub returns : goal.returns
-returns c = lexed_end _ _ _ c.loop-place.invariant.0 c.loop-place.invariant.1 c.loop-place-test.false c.loop-place.invariant.2
+returns-in-Letter c =
+    let at = c.in-Some.ensures.lookup.3 in
+    lexed_name _ _ _ (omega arith) at.0 (past_spaces _ _ _ c.count_spaces.ensures.count) _ _ _ (c.in-Letter.ensures ∙ ap class (at.1 0)) c.count_digits.ensures.count c.name.ensures

@@ -1,10 +1,10 @@
-use Rattle.std.proofs.Common.{◌≡◌, suc, ◌+◌, ◌/◌, ◌<◌, length, get_or, set, sym, ap, subst, arith}
+use Rattle.std.proofs.Common.{◌≡◌, suc, ◌+◌, ◌/◌, ◌<◌, length, get_or, sym, ap, ◌∙◌, subst, arith}
 use Rattle.circuit.specs.Netlists.{blank, gate, gate_line}
 use Rattle.circuit.specs.Reading.{netlist}
 use Rattle.description.specs.declared.part.Part.TheVariants.{Circuit}
-use Rattle.making.specs.Making.{at}
 use Rattle.runs.specs.Valuations.{line_fn}
 use Rattle.making.specs.Models.{alone}
+use Rattle.making.specs.Making.{at}
 use Rattle.making.specs.Pieces.{gate_list}
 use Rattle.making.specs.Ends.{made}
 use Rattle.making.proofs.Steps.{broke, ends_after}
@@ -15,65 +15,68 @@ use Rattle.making.proofs.Gating.{Sofar, gates_none, gate_ends, gate_more}
 use Rattle.making.proofs.gates.make_gates.Goals as goal
 
 pub loop-g-init : goal.loop-g-init
-loop-g-init g c h = gates_none (alone (netlist c.args.circuit.now)) (valid_alone _ c.args.circuit.now.sound) _ _ h
+loop-g-init g c = (c.requires, λ h. gates_none (alone (netlist c.args.circuit.now)) _ _ h)
 
 pub overflow_cast-g : goal.overflow_cast-g
 overflow_cast-g g c =
     let n = netlist c.args.circuit.now in
-    omega (arith, c.loop-g-test.true, ap length c.gates-gates.ensures, (sound_out n c.args.circuit.now.sound).few_gates)
+    omega (arith, c.loop-g-test.true, ap length c.gates-gate-items.ensures, (sound_out n c.args.circuit.now.sound).few_gates)
 
-pub conjunction-requires : goal.conjunction-requires
-conjunction-requires g c =
+pub conjunction-made-requires : goal.conjunction-made-requires
+conjunction-made-requires g c =
     let n = netlist c.args.circuit.now in
     let k = c.loop-g.g in
-    let lt : k < length n.gates = omega (arith, c.loop-g-test.true, ap length c.gates-gates.ensures) in
+    let lt : k < length n.gates = omega (arith, c.loop-g-test.true, ap length c.gates-gate-items.ensures) in
     let w = (sound_out n c.args.circuit.now.sound).wired k lt in
-    let e = ap (λ gs. get_or gs k blank) c.gates-gates.ensures in
+    let e = ap (λ gs. get_or gs k blank) c.gates-gate-items.ensures in
+    let d = ap length c.deref.ensures.0 ∙ c.loop-g.invariant.0 in
     record {
-      left = subst (λ x. x.left / 2 < length c.loop-g.numbers) (sym e) (omega (arith, w.0, c.requires, c.loop-g.auto.numbers));
-      right = subst (λ x. x.right / 2 < length c.loop-g.numbers) (sym e) (omega (arith, w.1, c.requires, c.loop-g.auto.numbers));
+      left = subst (λ x. x.left / 2 < length c.deref.result.now) (sym e) (omega (arith, w.0, d));
+      right = subst (λ x. x.right / 2 < length c.deref.result.now) (sym e) (omega (arith, w.1, d));
     }
 
-pub returns-in_err-a : goal.returns-in_err-a
-returns-in_err-a g c h =
+pub push-requires : goal.push-requires
+push-requires g c =
+    let n = netlist c.args.circuit.now in
+    let d = sound_out n c.args.circuit.now.sound in
+    omega (arith, c.loop-g-test.true, ap length c.gates-gate-items.ensures, c.loop-g.invariant.0, d.few_registers, d.few_inputs, d.few_gates)
+
+pub returns-in_err-number-clause-gates : goal.returns-in_err-number-clause-gates
+returns-in_err-number-clause-gates g c h =
     let n = netlist c.args.circuit.now in
     let m = alone n in
     let ok = valid_alone n c.args.circuit.now.sound in
     let k = c.loop-g.g in
-    let lt : k < length n.gates = omega (arith, c.loop-g-test.true, ap length c.gates-gates.ensures) in
+    let lt : k < length n.gates = omega (arith, c.loop-g-test.true, ap length c.gates-gate-items.ensures) in
     let s = g.S.Store.shows c.args.store.now in
-    let t = g.S.Store.shows c.loop-g.store in
-    let u = g.S.Store.shows c.conjunction.new.store in
-    let r = c.loop-g.invariant h in
-    let q = gate_ends m ok s t u c.loop-g.numbers k lt r c.gates-gates.result.now c.conjunction.result c.gates-gates.ensures c.conjunction.ensures in
-    broke c.from_residual.result c.in_err-a.field-0.0 c.from_residual.ensures.1
+    let r = c.loop-g.invariant.1 h in
+    let q = gate_ends m s ok _ _ c.loop-g.numbers.items k lt r _ c.conjunction-made.result c.gates-gate-items.ensures _ c.deref.ensures.0 c.conjunction-made.ensures in
+    broke c.from_residual.result c.in_err-number.field-0.0 c.from_residual.ensures.1
     (ends_upto (λ i. at Circuit i (gate_list (line_fn m) (gate n i))) (suc k) (length n.gates) lt
-    (ends_after r.0 (placed_err Circuit k c.conjunction.result c.place_at.ensures (lies_at Circuit k _) q c.in_err-a.was)))
+    (ends_after r.0 (placed_err Circuit k c.conjunction-made.result c.place_at.ensures (lies_at Circuit k _) q c.in_err-number.was)))
 
 pub loop-g-preserved : goal.loop-g-preserved
-loop-g-preserved g c h =
-    let n = netlist c.args.circuit.now in
-    let m = alone n in
-    let ok = valid_alone n c.args.circuit.now.sound in
-    let k = c.loop-g.g in
-    let lt : k < length n.gates = omega (arith, c.loop-g-test.true, ap length c.gates-gates.ensures) in
-    let s = g.S.Store.shows c.args.store.now in
-    let t = g.S.Store.shows c.loop-g.store in
-    let u = g.S.Store.shows c.conjunction.new.store in
-    let r = c.loop-g.invariant h in
-    let q = gate_ends m ok s t u c.loop-g.numbers k lt r c.gates-gates.result.now c.conjunction.result c.gates-gates.ensures c.conjunction.ensures in
-    let b = placed_ok Circuit k c.conjunction.result c.place_at.ensures (lies_at Circuit k _) q c.in_ok-a.was in
-    let e : gate_line n k ≡ 1 + c.registers.result + c.inputs.result + k = omega (arith, c.registers.ensures, c.inputs.ensures) in
-    subst (λ i. Sofar m ok s u (set c.loop-g.numbers i c.in_ok-a.a) (k + 1)) e
-    (gate_more m ok s t u c.loop-g.numbers k lt r c.in_ok-a.a b (omega (arith, c.requires, c.loop-g.auto.numbers)))
+loop-g-preserved g c = (
+  c.push.ensures.len ∙ ap (λ i. i + 1) c.loop-g.invariant.0 ∙ omega arith,
+  λ h.
+      let n = netlist c.args.circuit.now in
+      let m = alone n in
+      let ok = valid_alone n c.args.circuit.now.sound in
+      let k = c.loop-g.g in
+      let lt : k < length n.gates = omega (arith, c.loop-g-test.true, ap length c.gates-gate-items.ensures) in
+      let s = g.S.Store.shows c.args.store.now in
+      let r = c.loop-g.invariant.1 h in
+      let q = gate_ends m s ok _ _ c.loop-g.numbers.items k lt r _ c.conjunction-made.result c.gates-gate-items.ensures _ c.deref.ensures.0 c.conjunction-made.ensures in
+      gate_more m s ok _ _ c.loop-g.numbers.items k lt r c.in_ok-number.number (placed_ok Circuit k c.conjunction-made.result c.place_at.ensures (lies_at Circuit k _) q c.in_ok-number.was) c.loop-g.invariant.0 c.push.new.self.items c.push.ensures.items,
+)
 
 pub returns : goal.returns
-returns g c h =
+returns g c =
     let n = netlist c.args.circuit.now in
-    let m = alone n in
-    let ok = valid_alone n c.args.circuit.now.sound in
-    let s = g.S.Store.shows c.args.store.now in
-    let u = g.S.Store.shows c.loop-g.store in
-    let e : c.loop-g.g ≡ length n.gates = omega (arith, c.loop-g-test.false, ap length c.gates-gates.ensures) in
-    let r = subst (λ k. Sofar m ok s u c.loop-g.numbers k) e (c.loop-g.invariant h) in
-    made r.0 (r.2 (omega (arith, ok.circuit.enough_gates)), r.1)
+    let e : c.loop-g.g ≡ length n.gates = omega (arith, c.loop-g-test.false, c.loop-g.auto.g-end, ap length c.gates-gate-items.ensures) in
+    record {
+      whole = subst (λ k. length c.loop-g.numbers.items ≡ gate_line n k) e c.loop-g.invariant.0;
+      gates = λ h.
+          let r = subst (Sofar (alone n) (g.S.Store.shows c.args.store.now) (g.S.Store.shows c.loop-g.store) c.loop-g.numbers.items) e (c.loop-g.invariant.1 h) in
+          made r.0 (r.2 (omega (arith, (sound_out n c.args.circuit.now.sound).enough_gates)), r.1);
+    }

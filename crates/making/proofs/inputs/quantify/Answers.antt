@@ -1,45 +1,56 @@
-use Rattle.std.proofs.Common.{◌≡◌, suc, ◌+◌, ◌<◌, sym, subst, add-one, arith}
+use Rattle.std.proofs.Common.{◌≡◌, ℕ, suc, ◌+◌, ◌-◌, ◌<◌, Ok, Err, Result, sym, subst, arith}
+use Rattle.store.specs.declared.refusal.Refusal.{Refusal}
+use Rattle.store.specs.Fun.{Fn}
+use Rattle.store.specs.Meaning.{Shown}
+use Rattle.description.specs.declared.part.Part.{Part}
 use Rattle.runs.specs.Functions.{quantified}
 use Rattle.making.specs.Making.{Runs, ended, Means, at}
 use Rattle.making.specs.Pieces.{halves_list, quantified_list}
-use Rattle.making.specs.Ends.{made}
+use Rattle.making.specs.Ends.{Ends, made, plain}
+use Rattle.making.specs.Promises.{Halves}
 use Rattle.making.proofs.Steps.{runs_grown, runs_of, broke, ends_after}
 use Rattle.making.proofs.Loops.{ends_upto}
 use Rattle.making.proofs.inputs.quantify.Goals as goal
 
-pub loop-j-init : goal.loop-j-init
-loop-j-init g c p q f ma li = (ended, ma)
+-- variable x is given both values in turn k
+turn : {s t u : Shown} (p : Part) (q first : ℕ) (f : Fn) (x k a : ℕ) → first + k ≡ x → x < s.vars
+    → Runs s (quantified_list p q first f k) t × Means t a (quantified first f k) → (r : Result ℕ Refusal) → Halves t a x r u
+    → Ends plain s u (quantified_list p q first f (suc k)) (λ b. Means u b (quantified first f (suc k))) r
+turn {s = s} {t = t} {u = u} p q first f x k a e l so r y =
+    let w = runs_grown so.0 in
+    let y' = subst (λ i. Halves t a i r u) (sym e) y in
+    let in-range = subst (λ n. first + k < n) (sym w.vars) (subst (λ i. i < s.vars) (sym e) l) in
+    ends_after so.0 (y' p q (quantified first f k) so.1 in-range)
+
+pub loop-x-init : goal.loop-x-init
+loop-x-init g c p q f ma li =
+    let e : 0 ≡ c.args.first - c.args.first = omega arith in
+    let s = g.S.Store.shows c.args.store.now in
+    subst (λ k. Runs s (quantified_list p q c.args.first f k) s × Means s c.args.a (quantified c.args.first f k)) e (ended, ma)
 
 pub returns-in_err-f : goal.returns-in_err-f
 returns-in_err-f g c p q f ma li =
-    let k = c.loop-j.j in
-    let x = c.args.first in
-    let r = c.loop-j.invariant p q f ma li in
-    let w = runs_grown r.0 in
-    let lt : k < c.args.m = c.loop-j-test.true in
-    let in-range : x + k < (g.S.Store.shows c.loop-j.store).vars = subst (λ n. x + k < n) (sym w.vars) (omega (arith, li)) in
+    let x = c.loop-x.x in
+    let first = c.args.first in
     broke c.from_residual.result c.in_err-f.field-0.0 c.from_residual.ensures.1
-    (ends_upto (λ j. at p q (halves_list (x + j) (quantified x f j))) (suc k) c.args.m lt
-    (ends_after r.0 (c.in_err-f.ensures p q (quantified x f k) r.1 in-range)))
+    (ends_upto (λ j. at p q (halves_list (first + j) (quantified first f j))) (suc (x - first)) c.args.m (omega arith)
+    (turn p q first f x (x - first) c.loop-x.f (omega arith) (omega (arith, li)) (c.loop-x.invariant p q f ma li) (Err c.in_err-f.field-0.0) c.in_err-f.ensures))
 
-pub loop-j-preserved : goal.loop-j-preserved
-loop-j-preserved g c p q f ma li =
-    let k = c.loop-j.j in
-    let x = c.args.first in
-    let r = c.loop-j.invariant p q f ma li in
-    let w = runs_grown r.0 in
-    let lt : k < c.args.m = c.loop-j-test.true in
+pub loop-x-preserved : goal.loop-x-preserved
+loop-x-preserved g c p q f ma li =
+    let x = c.loop-x.x in
+    let first = c.args.first in
     let s = g.S.Store.shows c.args.store.now in
     let u = g.S.Store.shows c.halves.new.store in
-    let in-range : x + k < (g.S.Store.shows c.loop-j.store).vars = subst (λ n. x + k < n) (sym w.vars) (omega (arith, li)) in
-    subst (λ n. Runs s (quantified_list p q x f n) u × Means u c.in_ok-f.f (quantified x f n)) (sym (add-one k))
-    (runs_of (ends_after r.0 (c.in_ok-f.ensures p q (quantified x f k) r.1 in-range)))
+    let e : suc (x - first) ≡ x + 1 - first = omega arith in
+    subst (λ k. Runs s (quantified_list p q first f k) u × Means u c.in_ok-f.f (quantified first f k)) e
+    (runs_of (turn p q first f x (x - first) c.loop-x.f (omega arith) (omega (arith, li)) (c.loop-x.invariant p q f ma li) (Ok c.in_ok-f.f) c.in_ok-f.ensures))
 
 pub returns : goal.returns
 returns g c p q f ma li =
-    let x = c.args.first in
+    let first = c.args.first in
     let s = g.S.Store.shows c.args.store.now in
-    let u = g.S.Store.shows c.loop-j.store in
-    let e : c.loop-j.j ≡ c.args.m = omega arith in
-    let r = subst (λ n. Runs s (quantified_list p q x f n) u × Means u c.loop-j.f (quantified x f n)) e (c.loop-j.invariant p q f ma li) in
+    let u = g.S.Store.shows c.loop-x.store in
+    let e : c.loop-x.x - first ≡ c.args.m = omega arith in
+    let r = subst (λ k. Runs s (quantified_list p q first f k) u × Means u c.loop-x.f (quantified first f k)) e (c.loop-x.invariant p q f ma li) in
     made r.0 r.1

@@ -1,4 +1,4 @@
-use Rattle.std.proofs.Common.{ℕ, ◌+◌, ◌≤◌}
+use Rattle.std.proofs.Common.{ℕ, ◌+◌, ◌-◌, ◌≤◌}
 use Rattle.store.specs.Fun.{Fn}
 use Rattle.description.specs.declared.part.Part.{Part}
 use Rattle.runs.specs.Functions.{quantified}
@@ -6,9 +6,9 @@ use Rattle.making.specs.Making.{Runs, Means}
 use Rattle.making.specs.Pieces.{quantified_list}
 use Rattle.making.proofs.inputs.quantify.Given as goal
 
-abbrev pub invariant-loop-j : goal.invariant-loop-j
-invariant-loop-j g l = (p : Part) (q : ℕ) (f : Fn)
+abbrev pub invariant-loop-x : goal.invariant-loop-x
+invariant-loop-x g l = (p : Part) (q : ℕ) (f : Fn)
     → Means (g.S.Store.shows l.initial.store) l.a f
     → l.first + l.m ≤ (g.S.Store.shows l.initial.store).vars
-    → Runs (g.S.Store.shows l.initial.store) (quantified_list p q l.first f l.j) (g.S.Store.shows l.store)
-    × Means (g.S.Store.shows l.store) l.f (quantified l.first f l.j)
+    → Runs (g.S.Store.shows l.initial.store) (quantified_list p q l.first f (l.x - l.first)) (g.S.Store.shows l.store)
+    × Means (g.S.Store.shows l.store) l.f (quantified l.first f (l.x - l.first))

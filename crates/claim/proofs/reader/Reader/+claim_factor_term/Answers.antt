@@ -1,90 +1,79 @@
 use Rattle.std.proofs.Common.{◌<◌, [], ◌∷◌, ◌++◌, length, sym, ap, ◌∙◌, arith, length-append}
-use Rattle.std.proofs.lemmas.Result.{err_from_is_err_and}
 use Rattle.claim.specs.Reading.{ahead}
-use Rattle.claim.proofs.Steps.{reach_trans, ready_after, ready_sofar, post_short, fewer, room_left, by_token, as_term, as_claim, stop_term, stop_claim, more_and, more_or, stop_and, stop_or, stop_not, read_not, stop_open, closing, deep_not, deep_open, no_factor, read_constant}
+use Rattle.claim.proofs.Steps.{handed_on, reach_trans, post_short, fewer, room_left, by_token, as_term, as_claim, stop_term, stop_claim, more_and, more_or, stop_and, stop_or, stop_not, read_not, stop_open, closing, deep_not, deep_open, no_factor, read_constant}
 use Rattle.claim.proofs.reader.Reader.+claim_factor_term.Goals as goal
 
 pub claim-returns-in_err-term : goal.claim-returns-in_err-term
 claim-returns-in_err-term t c =
-    let p = err_from_is_err_and c.from_residual.result c.from_residual.ensures.1 in
-    rw (p.1, p.2) (stop_claim c.in_err-term.ensures)
+    handed_on _ c.from_residual.ensures.1 (stop_claim c.in_err-term.ensures)
 
 pub claim-loop-self-init : goal.claim-loop-self-init
-claim-loop-self-init t c =
-    let h = c.in_ok-term.ensures in
-    (ready_sofar c.requires.0 h.sofar, h.follow, λ a s. s)
+claim-loop-self-init t c = (c.in_ok-term.ensures.follow, as_claim c.in_ok-term.ensures.sofar)
 
 pub claim-term-requires-in-Or : goal.claim-term-requires-in-Or
 claim-term-requires-in-Or t c =
-    let s = c.loop-self.invariant.2 _ (as_claim c.in_ok-term.ensures.sofar) in
-    let ready = ready_after c.loop-self.invariant.0 c.pass.ensures (omega arith) in
+    let s = c.loop-self.invariant.1 in
     let some : 0 < length (s.ts ++ ahead c.loop-self.self ∷ []) = simp length-append (omega arith) in
-    (omega (arith, fewer (reach_trans s.reach c.pass.ensures) ready some, c.decreases), (ready, c.requires.1))
+    (omega (arith, fewer (reach_trans s.reach c.pass.ensures) some, c.decreases), tt)
 
 pub claim-returns-in_err-term-2 : goal.claim-returns-in_err-term-2
 claim-returns-in_err-term-2 t c =
-    let s = c.loop-self.invariant.2 _ (as_claim c.in_ok-term.ensures.sofar) in
-    let p = err_from_is_err_and c.from_residual-in_err-term-2.result c.from_residual-in_err-term-2.ensures.1 in
-    rw (p.1, p.2) (stop_or s (by_token c.pass.ensures c.in-Or.is) c.in_err-term-2.ensures)
+    let s = c.loop-self.invariant.1 in
+    handed_on _ c.from_residual-in_err-term-2.ensures.1 (stop_or s (by_token c.pass.ensures c.in-Or.is) c.in_err-term-2.ensures)
 
-pub claim-write-requires : goal.claim-write-requires
-claim-write-requires t c =
+pub claim-write-requires-clause-room : goal.claim-write-requires-clause-room
+claim-write-requires-clause-room t c =
     let h = c.in_ok-term-2.ensures.sofar in
-    room_left c.loop-self.invariant.0 (reach_trans c.pass.ensures h.reach) (omega (arith, post_short h.derived))
+    room_left (reach_trans c.pass.ensures h.reach) (omega (arith, post_short h.derived))
 
 pub claim-loop-self-preserved : goal.claim-loop-self-preserved
 claim-loop-self-preserved t c =
     let h = c.in_ok-term-2.ensures in
     let w = c.write.ensures.wrote in (
-      ready_after c.loop-self.invariant.0 (reach_trans c.pass.ensures (reach_trans h.sofar.reach w)) (simp length-append (omega (arith, post_short h.sofar.derived))),
       λ e. h.follow (sym (ap (λ x. x.token) c.write.ensures.ahead) ∙ e),
-      λ a s. more_or (c.loop-self.invariant.2 a s) (by_token c.pass.ensures c.in-Or.is) h.sofar w,
+      more_or c.loop-self.invariant.1 (by_token c.pass.ensures c.in-Or.is) h.sofar w,
     )
 
 pub claim-returns : goal.claim-returns
 claim-returns t c = record {
-  sofar = c.loop-self.invariant.2 _ (as_claim c.in_ok-term.ensures.sofar);
-  follow = (c.loop-self.invariant.1, c.in_default.not-Or);
+  sofar = c.loop-self.invariant.1;
+  follow = (c.loop-self.invariant.0, c.in_default.not-Or);
 }
 
 pub factor-returns-in_err-inner-in-Not : goal.factor-returns-in_err-inner-in-Not
 factor-returns-in_err-inner-in-Not t c =
-    let p = err_from_is_err_and c.from_residual.result c.from_residual.ensures.1 in
     let h = c.in_err-inner-in-Not.ensures in
-    rw (p.1, p.2, h.0) (deep_not c.args.self.now c.in-Not.is h.1)
+    handed_on _ c.from_residual.ensures.1 (rw h.0 (deep_not c.args.self.now c.in-Not.is h.1))
 
 pub factor-returns-in_err-factor-in-Not : goal.factor-returns-in_err-factor-in-Not
 factor-returns-in_err-factor-in-Not t c =
-    let p = err_from_is_err_and c.from_residual-in_err-factor-in-Not.result c.from_residual-in_err-factor-in-Not.ensures.1 in
-    let h = c.in_ok-inner-in-Not.ensures in
-    rw (p.1, p.2) (stop_not h.0 h.1 (by_token c.pass.ensures c.in-Not.is) c.in_err-factor-in-Not.ensures)
+    let h = c.in_ok-inner-in-Not in
+    handed_on _ c.from_residual-in_err-factor-in-Not.ensures.1 (stop_not h.ensures h.inner.few (by_token c.pass.ensures c.in-Not.is) c.in_err-factor-in-Not.ensures)
 
-pub factor-write-requires : goal.factor-write-requires
-factor-write-requires t c =
+pub factor-write-requires-clause-room : goal.factor-write-requires-clause-room
+factor-write-requires-clause-room t c =
     let h = c.in_ok-factor-in-Not.ensures.sofar in
-    room_left c.requires.0 (reach_trans c.pass.ensures h.reach) (omega (arith, post_short h.derived))
+    room_left (reach_trans c.pass.ensures h.reach) (omega (arith, post_short h.derived))
 
 pub factor-returns-in_err-inner-in-Open : goal.factor-returns-in_err-inner-in-Open
 factor-returns-in_err-inner-in-Open t c =
-    let p = err_from_is_err_and c.from_residual-in_err-inner-in-Open.result c.from_residual-in_err-inner-in-Open.ensures.1 in
     let h = c.in_err-inner-in-Open.ensures in
-    rw (p.1, p.2, h.0) (deep_open c.args.self.now c.in-Open.is h.1)
+    handed_on _ c.from_residual-in_err-inner-in-Open.ensures.1 (rw h.0 (deep_open c.args.self.now c.in-Open.is h.1))
 
 pub factor-returns-in_err-claim-in-Open : goal.factor-returns-in_err-claim-in-Open
 factor-returns-in_err-claim-in-Open t c =
-    let p = err_from_is_err_and c.from_residual-in_err-claim-in-Open.result c.from_residual-in_err-claim-in-Open.ensures.1 in
-    let h = c.in_ok-inner-in-Open.ensures in
-    rw (p.1, p.2) (stop_open h.0 h.1 (by_token c.pass-in-Open.ensures c.in-Open.is) c.in_err-claim-in-Open.ensures)
+    let h = c.in_ok-inner-in-Open in
+    handed_on _ c.from_residual-in_err-claim-in-Open.ensures.1 (stop_open h.ensures h.inner.few (by_token c.pass-in-Open.ensures c.in-Open.is) c.in_err-claim-in-Open.ensures)
 
 pub factor-returns-in_ok-factor-in-Not : goal.factor-returns-in_ok-factor-in-Not
 factor-returns-in_ok-factor-in-Not t c =
-    let h = c.in_ok-inner-in-Not.ensures in
-    record { sofar = read_not h.0 h.1 (by_token c.pass.ensures c.in-Not.is) c.in_ok-factor-in-Not.ensures.sofar c.write.ensures.wrote; follow = tt }
+    let h = c.in_ok-inner-in-Not in
+    record { sofar = read_not h.ensures h.inner.few (by_token c.pass.ensures c.in-Not.is) c.in_ok-factor-in-Not.ensures.sofar c.write.ensures.wrote; follow = tt }
 
 pub factor-returns-in_ok-claim-in-Open : goal.factor-returns-in_ok-claim-in-Open
 factor-returns-in_ok-claim-in-Open t c =
-    let h = c.in_ok-inner-in-Open.ensures in
-    closing c.args.depth c.close.new.self h.0 h.1 (by_token c.pass-in-Open.ensures c.in-Open.is) c.in_ok-claim-in-Open.ensures c.close.result c.close.ensures
+    let h = c.in_ok-inner-in-Open in
+    closing c.args.depth.opened c.close.new.self h.ensures h.inner.few (by_token c.pass-in-Open.ensures c.in-Open.is) c.in_ok-claim-in-Open.ensures c.close.result c.close.ensures
 
 pub factor-returns-in-Constant : goal.factor-returns-in-Constant
 factor-returns-in-Constant t c = read_constant (by_token c.atom.ensures c.in-Constant.is)
@@ -94,40 +83,34 @@ factor-returns-in_default t c = no_factor c.args.self.now c.in_default.not-Not c
 
 pub term-returns-in_err-factor : goal.term-returns-in_err-factor
 term-returns-in_err-factor t c =
-    let p = err_from_is_err_and c.from_residual.result c.from_residual.ensures.1 in
-    rw (p.1, p.2) (stop_term c.in_err-factor.ensures)
+    handed_on _ c.from_residual.ensures.1 (stop_term c.in_err-factor.ensures)
 
 pub term-loop-self-init : goal.term-loop-self-init
-term-loop-self-init t c = (ready_sofar c.requires.0 c.in_ok-factor.ensures.sofar, λ a s. s)
+term-loop-self-init t c = as_term c.in_ok-factor.ensures.sofar
 
 pub term-factor-requires-in-And : goal.term-factor-requires-in-And
 term-factor-requires-in-And t c =
-    let s = c.loop-self.invariant.1 _ (as_term c.in_ok-factor.ensures.sofar) in
-    let ready = ready_after c.loop-self.invariant.0 c.pass.ensures (omega arith) in
+    let s = c.loop-self.invariant in
     let some : 0 < length (s.ts ++ ahead c.loop-self.self ∷ []) = simp length-append (omega arith) in
-    (omega (arith, fewer (reach_trans s.reach c.pass.ensures) ready some, c.decreases), (ready, c.requires.1))
+    (omega (arith, fewer (reach_trans s.reach c.pass.ensures) some, c.decreases), tt)
 
 pub term-returns-in_err-factor-2 : goal.term-returns-in_err-factor-2
 term-returns-in_err-factor-2 t c =
-    let s = c.loop-self.invariant.1 _ (as_term c.in_ok-factor.ensures.sofar) in
-    let p = err_from_is_err_and c.from_residual-in_err-factor-2.result c.from_residual-in_err-factor-2.ensures.1 in
-    rw (p.1, p.2) (stop_and s (by_token c.pass.ensures c.in-And.is) c.in_err-factor-2.ensures)
+    let s = c.loop-self.invariant in
+    handed_on _ c.from_residual-in_err-factor-2.ensures.1 (stop_and s (by_token c.pass.ensures c.in-And.is) c.in_err-factor-2.ensures)
 
-pub term-write-requires : goal.term-write-requires
-term-write-requires t c =
+pub term-write-requires-clause-room : goal.term-write-requires-clause-room
+term-write-requires-clause-room t c =
     let h = c.in_ok-factor-2.ensures.sofar in
-    room_left c.loop-self.invariant.0 (reach_trans c.pass.ensures h.reach) (omega (arith, post_short h.derived))
+    room_left (reach_trans c.pass.ensures h.reach) (omega (arith, post_short h.derived))
 
 pub term-loop-self-preserved : goal.term-loop-self-preserved
 term-loop-self-preserved t c =
     let h = c.in_ok-factor-2.ensures.sofar in
-    let w = c.write.ensures.wrote in (
-      ready_after c.loop-self.invariant.0 (reach_trans c.pass.ensures (reach_trans h.reach w)) (simp length-append (omega (arith, post_short h.derived))),
-      λ a s. more_and (c.loop-self.invariant.1 a s) (by_token c.pass.ensures c.in-And.is) h w,
-    )
+    more_and c.loop-self.invariant (by_token c.pass.ensures c.in-And.is) h c.write.ensures.wrote
 
 pub term-returns : goal.term-returns
 term-returns t c = record {
-  sofar = c.loop-self.invariant.1 _ (as_term c.in_ok-factor.ensures.sofar);
+  sofar = c.loop-self.invariant;
   follow = c.in_default.not-And;
 }

@@ -1,7 +1,6 @@
 use Rattle.std.proofs.Common.{◌+◌, ◌-◌, ◌*◌, length}
-use Rattle.claim.specs.declared.reader.Reader.{Reader}
 use Rattle.claim.specs.Grammar.{claim, term}
-use Rattle.claim.specs.Reading.{Ready, Sofar, Follow}
+use Rattle.claim.specs.Reading.{Sofar, Follow}
 use Rattle.claim.proofs.reader.Reader.+claim_factor_term.Given as goal
 
 abbrev pub decreases-claim : goal.decreases-claim
@@ -13,15 +12,15 @@ decreases-factor l = 3 * (length l.self.now.text.now - l.self.now.ahead.place)
 abbrev pub decreases-term : goal.decreases-term
 decreases-term l = 3 * (length l.self.now.text.now - l.self.now.ahead.place) + 1
 
--- what was a claim where the loop began is one now
+-- the tokens so far are a claim or a term
 abbrev pub invariant-claim-loop-self : goal.invariant-claim-loop-self
-invariant-claim-loop-self l = Ready l.self × Follow term l.self.ahead.token × ((a : Reader) → Sofar claim l.depth a l.initial.self → Sofar claim l.depth a l.self)
+invariant-claim-loop-self l = Follow term l.self.ahead.token × Sofar claim l.depth.opened l.fn.self l.self
 
 abbrev pub decreases-claim-loop-self : goal.decreases-claim-loop-self
 decreases-claim-loop-self l = length l.self.text.now - l.self.ahead.place
 
 abbrev pub invariant-term-loop-self : goal.invariant-term-loop-self
-invariant-term-loop-self l = Ready l.self × ((a : Reader) → Sofar term l.depth a l.initial.self → Sofar term l.depth a l.self)
+invariant-term-loop-self l = Sofar term l.depth.opened l.fn.self l.self
 
 abbrev pub decreases-term-loop-self : goal.decreases-term-loop-self
 decreases-term-loop-self l = length l.self.text.now - l.self.ahead.place

@@ -1,7 +1,0 @@
-use Rattle.std.proofs.Common.{◌≡◌, ℕ, ◌<◌, false}
-use Rattle.circuit.specs.Rules.{miswired}
-use Rattle.circuit.specs.Steps.{drawn}
-use Rattle.circuit.proofs.check_wires.Given as goal
-
-abbrev pub invariant-loop-g : goal.invariant-loop-g
-invariant-loop-g l = (k : ℕ) → k < l.g → miswired (drawn l.sizes l.gates) k ≡ false

@@ -1,0 +1,103 @@
+// Netlists as their files say them, and the checks on what their lines are.
+ghost use Rattle.std.specs.Prelude.{◌≡◌, ℕ, ◌+◌, ◌<◌, length, IfOk, MatchResult};
+ghost use Rattle.circuit.specs.declared.refusal.Refusal.TheVariants.{Wire};
+ghost use Rattle.circuit.specs.Files.{says};
+ghost use Rattle.circuit.specs.Lines.{touching};
+ghost use Rattle.circuit.specs.Netlists.{sizes, gate_line, init_line};
+ghost use Rattle.circuit.specs.Reading.{netlist, answered};
+ghost use Rattle.circuit.specs.Rules.{Wired, Sound, first_miswired, checking};
+ghost use Rattle.circuit.specs.Steps.{InRange, Sized};
+
+use super::circuit::Circuit;
+use super::gate::Gate;
+use super::refusal::Refusal;
+use super::sizes::Sizes;
+use super::{MOST_GATES, MOST_LINES, number_at};
+use arrayvec::ArrayVec;
+use std::marker::Model;
+
+// What a file says, before it is known to be a circuit.
+#[derive(Drop)]
+pub(crate) struct Netlist {
+    pub(crate) registers: u8,
+    pub(crate) inputs: u8,
+    pub(crate) gates: ArrayVec<Gate, MOST_GATES>,
+}
+
+impl Model for Netlist {
+    ghost use Rattle.circuit.specs.Netlists.{Netlist as Said};
+
+    ghost Value = { Said };
+
+    ghost view = { λ n. record { registers = n.registers; inputs = n.inputs; gates = n.gates.items } };
+}
+
+impl Netlist {
+    // What a file of these sizes says: all left literals, then all right literals.
+    pub(crate) fn read(file: &[u8], sizes: Sizes) -> Netlist
+        requires { Sized file.now sizes }
+        ensures { result ≡ says file.now }
+    {
+        let count = sizes.gates;
+        let mut gates = ArrayVec::new();
+        for g in 0..count {
+            gates.push(Gate {
+                left: number_at(file, 3 + g),
+                right: number_at(file, 3 + count + g),
+            });
+        }
+        Netlist {
+            registers: sizes.registers as u8,
+            inputs: sizes.inputs as u8,
+            gates,
+        }
+    }
+
+    // The circuit that this is, if it passes the checks on its lines.
+    pub(crate) fn checked(self) -> Result<Circuit, Refusal>
+        requires { InRange (sizes self) }
+        ensures reads { answered result ≡ checking self }
+        ensures sound { IfOk result (λ c. Sound (netlist c)) }
+    {
+        self.check_wires()?;
+        if self.init_touches() {
+            return Err(Refusal::Start(self.gates.len() as u16 - 1));
+        }
+        Ok(Circuit { netlist: self })
+    }
+
+    fn gate_line(&self, g: u16) -> usize
+        ensures { result ≡ gate_line self.now g }
+    {
+        1 + self.registers as usize + self.inputs as usize + g as usize
+    }
+
+    // Refuses the first gate that names its own line or a later one.
+    fn check_wires(&self) -> Result<(), Refusal>
+        ensures { MatchResult result (λ _. (g : ℕ) → g < length self.now.gates → Wired self.now g) (λ e. (first_miswired self.now < length self.now.gates) × (e ≡ Wire (first_miswired self.now))) }
+    {
+        for (g, gate) in self.gates.as_slice().iter().enumerate() {
+            if !gate.names_below(self.gate_line(g as u16)) {
+                return Err(Refusal::Wire(g as u16));
+            }
+        }
+        Ok(())
+    }
+
+    // Whether Init, the last gate, touches an input. Each line in turn is marked if it does.
+    fn init_touches(&self) -> bool
+        requires ranged { InRange (sizes self.now) }
+        requires wired { (g : ℕ) → g < length self.now.gates → Wired self.now g }
+        ensures { result ≡ touching self.now (init_line self.now) }
+    {
+        let mut marks = ArrayVec::<bool, MOST_LINES>::new();
+        for line in 0..self.gate_line(0) {
+            marks.push(line > self.registers as usize);
+        }
+        for gate in self.gates.as_slice() {
+            let touches = gate.names_marked(marks.as_slice());
+            marks.push(touches);
+        }
+        marks.as_slice().last().copied().unwrap_or(false)
+    }
+}
