@@ -35,7 +35,7 @@ module _ (s : Shown) (bs : List ℕ) where
   module _ (p : Parts) (framed : frame bs ≡ Ok p) where
     pub not_begun : (e : Refusal) → Unbegun s p.circuit p.assumption p.property e → Reports s bs (report.Refused (Call e))
     not_begun e = ⊎_elim
-        (λ k. unfit framed k)
+        (λ u. subst (λ y. Reports s bs (report.Refused (Call y))) (sym u.2) (unfit framed u.1))
         (λ u. subst (λ y. Reports s bs (report.Refused (Call y))) (sym u.5) (load_full (record { parts = p; framed = framed; describes = u.1 }) u.4))
 
     module _ (m : Model) (d : Describes s.vars p.circuit p.assumption p.property m) where

@@ -1,21 +1,24 @@
 -- What one call of a session gives, where some use led to it.
-use Rattle.std.proofs.Common.{◌≡◌, ℕ, suc, ◌^◌, ◌<◌, ◌≤◌, Bool, ◌⊎◌, List, [], ◌∷◌, length, IsErrAnd, Ok, Err, Result, sym, refl, ap, ◌∙◌, subst, inl, inr, arith, pow_mono, MatchResult}
+use Rattle.std.proofs.Common.{◌≡◌, ℕ, suc, ◌^◌, ◌<◌, ◌≤◌, Bool, Option, None, Some, ◌⊎◌, List, [], ◌∷◌, length, IsErrAnd, Ok, Err, Result, sym, refl, ap, ◌∙◌, subst, inl, inr, arith, pow_mono, MatchOption, MatchResult}
 use Rattle.std.proofs.lemmas.Result.{err_from_is_err_and}
 use Rattle.store.specs.Meaning.{Shown}
+use Rattle.description.specs.Checks.{Checked, right}
+use Rattle.description.specs.declared.fault.Fault.{Fault as Misdescription}
 use Rattle.making.specs.declared.fault.Fault.{Fault as Refusal}
+use Rattle.making.specs.declared.fault.Fault.TheVariants.{Description}
 use Rattle.making.specs.Making.{Item, Stops}
 use Rattle.making.specs.Loads.{load_list}
-use Rattle.runs.specs.Models.{Model, system, Describes}
+use Rattle.runs.specs.Models.{Model, Valid, system, Describes}
 use Rattle.runs.specs.Search.{unsafe, safe, open_yet, verdict, Reached}
 use Rattle.runs.specs.Search as search
 use Rattle.runs.proofs.Verdicts.{verdicts}
 use Rattle.uses.specs.declared.verdict.Verdict.{Verdict}
 use Rattle.uses.specs.declared.verdict.Verdict.TheVariants as answer
-use Rattle.uses.specs.Calls.{State, empty, loaded, tell, told, Call, load, advance, ask, trace, inside, Stand, stand, Event, event, written, Checked, right}
+use Rattle.uses.specs.Calls.{State, empty, loaded, tell, told, Call, load, advance, ask, trace, inside, Stand, stand, Event, event, written}
 use Rattle.uses.specs.Uses.{room, Step, load_wrong, load_full, loads, advance_settled, advance_full, advances, asks, trace_verdict, trace_short, traces, inside_verdict, inside_state, insides, Use, went_on}
-use Rattle.uses.proofs.Checks.{never}
 use Rattle.uses.proofs.Uses.{closed, come}
-use Rattle.engine.specs.Keeping.{World, Keeps, Next}
+use Rattle.engine.specs.declared.search.Search.{Search}
+use Rattle.engine.specs.Keeping.{World, Sets, Keeps, Next}
 use Rattle.decide.specs.Reports.{Searched, begun, advanced}
 use Rattle.decide.specs.Searches.{Come, Short, Decided}
 
@@ -32,11 +35,11 @@ pub record Began (s : Shown) (x a p : List ℕ) (r : Verdict) (v : World) : Type
 
 -- why it was refused
 abbrev pub Unbegun : Shown → (x a p : List ℕ) → Refusal → Type 0
-Unbegun s x a p e = Checked s.vars x a p (Err e) ⊎ ((m : Model) × Describes s.vars x a p m × (y : Item) × (t : Shown) × Stops s (load_list m) y t × (e ≡ room y t))
+Unbegun s x a p e = ((d : Misdescription) × Checked s.vars x a p (Err d) × (e ≡ Description d)) ⊎ ((m : Model) × Describes s.vars x a p m × (y : Item) × (t : Shown) × Stops s (load_list m) y t × (e ≡ room y t))
 
 loading : {s : Shown} {x a p : List ℕ} {r : Result Verdict Refusal} {h : List Event} (v : World) (st : State)
     → Step (stand empty s) (load x a p r) (stand st v.store) → Use h (stand st v.store) → Keeps st v → MatchResult r (λ y. Began s x a p y v) (Unbegun s x a p)
-loading v st (load_wrong k) u k' = inl k
+loading v st (load_wrong {e = d} k) u k' = inl (d, k, refl)
 loading v st (load_full {m = m} {y = y} (right d) q) u k' = inr (m, d, y, v.store, q, refl)
 loading {h = h} v st (loads {m = m} (right d) q) u k' = record { model = m; describes = d; told_is = refl; come = record { past = h; led = u; keeps = k'; searched = begun q } }
 
@@ -101,30 +104,19 @@ module _ (s : Shown) (m : Model) (j : ℕ) where
       → suc j ≤ length x → suc j ≤ length y → MatchResult r (λ _. Handed x y x' y') (λ _. ⊥)
   handed_by w v c o n lx ly = handing (last_step (n c.past (loaded m j) c.led c.keeps).1) o lx ly
 
+  valid_of : {t : Shown} (x : Option Search) → MatchOption x ⊥ (Sets m j t) → Valid m
+  valid_of None k = absurd k
+  valid_of (Some x) k = k.valid
+
   -- a search of at most 8 registers settles within 256 advances
   pub settles_by : (w : World) → Come s m j w → verdict (system m) j ≡ open_yet → 256 ≤ j → ⊥
   settles_by w c o l =
       let few = ((verdicts (system m) (closed m) j (come c.led).0).openly o).few in
-      let bound : 2 ^ m.circuit.registers ≤ 2 ^ 8 = pow_mono c.keeps.valid.circuit.few_registers in
+      let bound : 2 ^ m.circuit.registers ≤ 2 ^ 8 = pow_mono (valid_of w.search c.keeps).circuit.few_registers in
       omega arith
-
-tell_open : (x : search.Verdict) → tell x ≡ answer.Open → x ≡ open_yet
-tell_open (unsafe d) e = never (cc)
-tell_open safe e = never (cc)
-tell_open open_yet e = refl
 
 pub told_open : (m : Model) (j : ℕ) (v : Verdict) → v ≡ told (loaded m j) → v ≡ answer.Open → verdict (system m) j ≡ open_yet
 told_open m j v e o = tell_open (verdict (system m) j) (sym e ∙ o)
-
-tell_safe : (x : search.Verdict) → tell x ≡ answer.Safe → x ≡ safe
-tell_safe (unsafe d) e = never (cc)
-tell_safe safe e = refl
-tell_safe open_yet e = never (cc)
-
-tell_unsafe : (x : search.Verdict) (d : ℕ) → tell x ≡ answer.Unsafe d → x ≡ unsafe d
-tell_unsafe (unsafe k) d e = let h : k ≡ d = cc in ap unsafe h
-tell_unsafe safe d e = never (cc)
-tell_unsafe open_yet d e = never (cc)
 
 pub told_safe : (m : Model) (j : ℕ) (v : Verdict) → v ≡ told (loaded m j) → v ≡ answer.Safe → verdict (system m) j ≡ safe
 told_safe m j v e o = tell_safe (verdict (system m) j) (sym e ∙ o)

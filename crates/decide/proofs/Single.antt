@@ -6,7 +6,10 @@ use Rattle.std.proofs.lemmas.Bool.{cases_lt}
 use Rattle.std.proofs.lemmas.List.{ext_get_or}
 use Rattle.store.specs.Meaning.{Shown}
 use Rattle.circuit.specs.declared.sizes.Sizes.{Sizes}
-use Rattle.making.specs.declared.fault.Fault.{Fault as Refusal}
+use Rattle.description.specs.Checks.{Checked, right}
+use Rattle.description.specs.declared.fault.Fault.{Fault as Misdescription}
+use Rattle.description.proofs.Checks.{never, one_check}
+use Rattle.making.specs.declared.fault.Fault.TheVariants.{Description}
 use Rattle.runs.specs.Models.{Model, system, sizes}
 use Rattle.runs.specs.Search.{unsafe, safe, open_yet, verdict, Reached}
 use Rattle.runs.specs.Search as search
@@ -14,8 +17,6 @@ use Rattle.runs.specs.Systems.{Breaking}
 use Rattle.runs.specs.Verdicts.{Safe, Unsafe}
 use Rattle.runs.proofs.Traces as runs
 use Rattle.runs.proofs.Verdicts.{verdicts}
-use Rattle.uses.specs.Calls.{Checked, right}
-use Rattle.uses.proofs.Checks.{never, one_check}
 use Rattle.uses.proofs.Uses.{closed}
 use Rattle.job.specs.Frames.{Parts, frame}
 use Rattle.job.specs.declared.fault.Fault.{Fault as Unframed}
@@ -45,7 +46,7 @@ module _ {m : Model} {s : Shown} {i j : ℕ} {t u : Shown} (f : Searched m s i t
 same_trace : (x y : Trace) → depth_of x ≡ depth_of y → ((t : ℕ) → t ≤ depth_of x → (state_at x t ≡ state_at y t) × (input_at x t ≡ input_at y t)) → x ≡ y
 same_trace x y d h =
     let e : x.steps.items ≡ y.steps.items =
-    ext_get_or none _ _ (omega arith) (λ t l i. record { state = (h t (omega arith)).0 i; input = (h t (omega arith)).1 i }) in
+    ext_get_or none x.steps.items y.steps.items (omega arith) (λ t l i. record { state = (h t (omega arith)).0 i; input = (h t (omega arith)).1 i }) in
     λ i. record { steps = record { items = e i }; begun = to_path_p (λ i. 0 < length (e i)) {a = x.begun} {b = y.begun} (le_prop _ _) i }
 
 -- the trace of a depth
@@ -76,14 +77,14 @@ module _ {m : Model} {s : Shown} where
 
 module _ (s : Shown) (bs : List ℕ) where
   -- what the checks of a job lead to, unless there is no room
-  abbrev Follows : Result Model Refusal → Report → Type 0
+  abbrev Follows : Result Model Misdescription → Report → Type 0
   Follows (Ok m) r = (j : ℕ) × (t : Shown) × Searched m s j t × Conclusion m j r
-  Follows (Err e) r = r ≡ report.Refused (Call e)
+  Follows (Err e) r = r ≡ report.Refused (Call (Description e))
 
   data Way (r : Report) : Type 0 where
     no_room : Full r → Way r
     no_frame : {e : Unframed} → frame bs ≡ Err e → r ≡ report.Refused (Frame e) → Way r
-    framed : {p : Parts} {x : Result Model Refusal} → frame bs ≡ Ok p → Checked s.vars p.circuit p.assumption p.property x → Follows x r → Way r
+    framed : {p : Parts} {x : Result Model Misdescription} → frame bs ≡ Ok p → Checked s.vars p.circuit p.assumption p.property x → Follows x r → Way r
 
   way : {r : Report} → Reports s bs r → Way r
   way (unframed e) = no_frame e refl
@@ -93,7 +94,7 @@ module _ (s : Shown) (bs : List ℕ) where
   way (found_safe {j = j} {t = t} w f o) = framed w.framed (right w.describes) (j, t, f, is_safe o)
   way (found_unsafe {t = t} {x = x} w f o h) = framed w.framed (right w.describes) (depth_of x, t, f, is_unsafe refl o h)
 
-  one_follows : (x : Result Model Refusal) {r r' : Report} → Follows x r → Follows x r' → r' ≡ r
+  one_follows : (x : Result Model Misdescription) {r r' : Report} → Follows x r → Follows x r' → r' ≡ r
   one_follows (Ok m) (j, t, f, h) (k, u, g, h') = one_conclusion f g h h'
   one_follows (Err e) a b = b ∙ sym a
 

@@ -2,8 +2,9 @@
 use Rattle.std.specs.Prelude.{◌≡◌, ℕ, zero, suc, ◌+◌, ◌^◌, Bool, cond, ◌⊎◌, List, Ok, Err}
 use Rattle.store.specs.Meaning.{Shown}
 use Rattle.circuit.specs.declared.sizes.Sizes.{Sizes}
-use Rattle.making.specs.declared.fault.Fault.{Fault as Refusal}
-use Rattle.making.specs.declared.fault.Fault.TheVariants.{Room}
+use Rattle.description.specs.Checks.{Checked}
+use Rattle.description.specs.declared.fault.Fault.{Fault as Misdescription}
+use Rattle.making.specs.declared.fault.Fault.TheVariants.{Description, Room}
 use Rattle.making.specs.Making.{Item, Runs, Stops}
 use Rattle.making.specs.Loads.{load_list, advance_list}
 use Rattle.runs.specs.Models.{Model, system, sizes, Describes}
@@ -11,7 +12,6 @@ use Rattle.runs.specs.Search.{unsafe, safe, open_yet, verdict, inside}
 use Rattle.runs.specs.Search as search
 use Rattle.runs.specs.Systems.{Breaking}
 use Rattle.runs.specs.Verdicts.{Safe, Unsafe}
-use Rattle.uses.specs.Calls.{Checked}
 use Rattle.uses.specs.Uses.{room}
 use Rattle.job.specs.Frames.{Parts, frame}
 use Rattle.job.specs.declared.fault.Fault.{Fault as Unframed}
@@ -49,7 +49,7 @@ Traced m t = search.Trace (system m) (depth_of t) (state_at t) (input_at t)
 pub data Reports (s : Shown) (bs : List ℕ) : Report → Type 0 where
   -- the frame is wrong, or a check of the load refuses the circuit or a text
   unframed : {e : Unframed} → frame bs ≡ Err e → Reports s bs (report.Refused (Frame e))
-  unfit : {p : Parts} {e : Refusal} → frame bs ≡ Ok p → Checked s.vars p.circuit p.assumption p.property (Err e) → Reports s bs (report.Refused (Call e))
+  unfit : {p : Parts} {e : Misdescription} → frame bs ≡ Ok p → Checked s.vars p.circuit p.assumption p.property (Err e) → Reports s bs (report.Refused (Call (Description e)))
   -- the store refused a making call of the load, or of an advance
   load_full : {m : Model} {y : Item} {t : Shown} → Job s.vars bs m → Stops s (load_list m) y t → Reports s bs (report.Refused (Call (room y t)))
   advance_full : {m : Model} {j : ℕ} {y : Item} {t u : Shown} → Job s.vars bs m → Searched m s j t → verdict (system m) j ≡ open_yet → Stops t (advance_list m j) y u

@@ -2,7 +2,7 @@ use Rattle.std.proofs.Common.{◌≡◌, ℕ, Ok, Err, Result, sym, ap, ◌∙�
 use Rattle.circuit.specs.declared.sizes.Sizes.{Sizes}
 use Rattle.making.specs.declared.fault.Fault.{Fault}
 use Rattle.decide.specs.declared.report.Report.TheVariants as report
-use Rattle.uses.proofs.Checks.{never}
+use Rattle.description.proofs.Checks.{never}
 use Rattle.decide.specs.Searches.{Conclusion, is_safe, is_unsafe}
 use Rattle.decide.proofs.Sessions.{told_safe, told_unsafe, handed_on}
 use Rattle.decide.proofs.conclude.conclude.Goals as goal

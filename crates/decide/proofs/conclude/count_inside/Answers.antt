@@ -3,7 +3,7 @@ use Rattle.std.proofs.Common.{◌≡◌, ℕ, ◌+◌, ◌^◌, ◌<◌, ◌≤�
 use Rattle.making.specs.declared.fault.Fault.{Fault}
 use Rattle.runs.specs.Models.{system}
 use Rattle.runs.specs.Search.{inside}
-use Rattle.uses.proofs.Checks.{never}
+use Rattle.description.proofs.Checks.{never}
 use Rattle.engine.proofs.Spreads.{shifted}
 use Rattle.engine.specs.Keeping.{world}
 use Rattle.decide.specs.Reports.{tally}
