@@ -5,11 +5,9 @@ ghost use Rattle.circuit.specs.Reading.{netlist};
 ghost use Rattle.runs.specs.Valuations.{name_line};
 
 use arrayvec::ArrayVec;
+use circuit::MOST_LINES;
 use circuit::circuit::Circuit;
 use claim::code::Sort;
-
-// Line 0, and most registers, inputs and gates.
-const MOST_LINES: usize = 1 + 8 + 8 + 1024;
 
 // The numbers of the first lines, in their order. They are a parameter beside the circuit while they grow, since `Lines` is whole.
 pub(crate) type Numbers = ArrayVec<u16, MOST_LINES>;
