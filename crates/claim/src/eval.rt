@@ -30,7 +30,7 @@ impl Valuation<'_> {
     }
 }
 
-// Does what a code does, with the truths of the names.
+// Does what a code does, with the truths of the names. A match, and no closures: a code is data, read from a text.
 fn act(operands: &mut ArrayVec<bool, 512>, code: Code, values: &Valuation)
     requires enough { arity code.act ≤ array_vec_len operands.old }
     requires room { array_vec_len operands.old < 512 }

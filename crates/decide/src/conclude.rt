@@ -18,6 +18,7 @@ fn count_inside<S: Store>(session: &mut Session<S>, registers: u16) -> Result<u1
     ensures { CountsInside (world S.Store.shows session.old) registers result }
 {
     let mut count = 0;
+    // A `for`: `filter` takes no test that can be refused.
     for q in 0..1 << registers {
         count += u16::from(session.inside(q)?);
     }
@@ -28,6 +29,7 @@ fn read_trace<S: Store>(session: &mut Session<S>, depth: u16) -> Result<Trace, F
     requires { depth ≤ 256 }
     ensures { HandsOut (world S.Store.shows session.old) depth result }
 {
+    // Two arrays, as the call takes them.
     let mut states = [0; 257];
     let mut inputs = [0; 257];
     session.trace(&mut states, &mut inputs)?;

@@ -15,6 +15,7 @@ pub enum Fault {
     Call(Refusal),
 }
 
+// A conversion for each error, since each makes a case of its own.
 impl From<Unframed> for Fault {
     ghost from_gives = { λ e r. r ≡ of_frame e };
 

@@ -13,6 +13,7 @@ pub enum Fault {
 }
 
 impl Fault {
+    // Methods, since `as` takes no enum that holds values.
     pub fn number(self) -> u8
         ensures { result ≡ number_of self }
     {

@@ -24,7 +24,7 @@ fn pop(stack: &mut Stack) -> u16
     stack.pop().unwrap_or(0)
 }
 
-// The number of an act's function. Its operands leave the stack.
+// The number of an act's function. Its operands leave the stack. A match, and no closures: an act is data, read from a text.
 fn act_on<S: Store>(
     store: &mut S,
     lines: &Lines,

@@ -52,6 +52,7 @@ impl Fault {
         }
     }
 
+    // Methods, since `as` takes no enum that holds values.
     pub fn number(self) -> u8
         ensures { result ≡ number_of self }
     {

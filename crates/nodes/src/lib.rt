@@ -8,6 +8,7 @@ ghost use Rattle.nodes.specs.Identity.{node_exact};
 use records::entry::Entry;
 
 // Decides by its variable: the function numbered `low` where that is false, and the one numbered `high` where it is true.
+// By numbers, and no boxes: nothing here is on a heap, and a node is shared.
 #[derive(Clone, Copy, PartialEq, Eq, Default, Debug)]
 pub struct Node {
     pub variable: u8,
