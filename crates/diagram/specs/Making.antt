@@ -1,8 +1,7 @@
 -- What is made inside a diagram.
 use Rattle.std.specs.Prelude.{◌≡◌, ℕ, ◌+◌, ◌-◌, ◌<◌, ◌≤◌, Bool, length, take, Some, None, Ok, Err, Option, Result}
-use Rattle.store.specs.Tasks.{asked, operands, Posed, within}
+use Rattle.store.specs.Tasks.{asked, Posed}
 use Rattle.store.specs.Fun.{Fn, Same, fix}
-use Rattle.store.specs.Calls.{Reply}
 use Rattle.store.specs.declared.refusal.Refusal.{Refusal}
 use Rattle.store.specs.declared.refusal.Refusal.TheVariants.{Room}
 use Rattle.nodes.specs.Graph.{value, top}
@@ -43,7 +42,3 @@ pub record HalvedTask (d : Diagram) (task : Task) (v : ℕ) (t : Bool) (u : Task
 abbrev pub Finishes : Diagram → Diagram → ℕ → Result ℕ Full → Result ℕ Refusal → Type 0
 Finishes d e used (Ok a) r = (r ≡ Ok a) × (showing e ≡ showing d)
 Finishes d e used (Err _) r = (r ≡ Err (Room (capacity d - length (take used (listed d))))) × (showing e ≡ shown d.n (take used (listed d)) (capacity d))
-
--- what a store answers to the task
-abbrev pub Replies : Diagram → Task → Result ℕ Refusal → Diagram → Type 0
-Replies d task r e = Reply (showing d) (showing e) (operands (showing d) task) (within (showing d) task) (asked (showing d) task) r

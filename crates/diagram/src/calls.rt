@@ -5,29 +5,16 @@ use super::Diagram;
 use store::Store;
 use store::figures::Figures;
 use store::refusal::Refusal;
-use store::task::{Op, Task, check_value};
+use store::task::{Task, check_value};
 
 impl Store for Diagram<'_> {
     ghost shows = { λ d. showing d };
 
-    fn variable(&mut self, i: u8) -> Result<u16, Refusal> {
-        self.answer(Task::Variable(i))
-    }
-
-    fn not(&mut self, a: u16) -> Result<u16, Refusal> {
-        self.answer(Task::Not(a))
-    }
-
-    fn and(&mut self, a: u16, b: u16) -> Result<u16, Refusal> {
-        self.answer(Task::Both(Op::And, a, b))
-    }
-
-    fn or(&mut self, a: u16, b: u16) -> Result<u16, Refusal> {
-        self.answer(Task::Both(Op::Or, a, b))
-    }
-
-    fn cofactor(&mut self, a: u16, i: u8, t: bool) -> Result<u16, Refusal> {
-        self.answer(Task::Cofactor(a, i, t))
+    fn answer(&mut self, task: Task) -> Result<u16, Refusal> {
+        task.check(self.held(), self.n)?;
+        let used = self.nodes.len();
+        let made = self.make(task);
+        self.finish(used, made)
     }
 
     fn value(&mut self, a: u16, w: u32) -> Result<bool, Refusal> {

@@ -3,14 +3,16 @@ use Rattle.std.proofs.Common.{◌≡◌, ℕ, Bool, true, false, ◌&&◌, ltb, 
 use mathlib.Core.Path.{fun_ext}
 use Rattle.std.proofs.lemmas.Bool.{cases_Bool, cases_lt, ltb-true, lt-ltb, and_parts, cond-false}
 use Rattle.store.specs.declared.refusal.Refusal.{Refusal}
+use Rattle.store.specs.declared.task.Task.{Task}
+use Rattle.store.specs.declared.task.Task.TheVariants.{Variable, Not, Both, Cofactor}
 use Rattle.store.specs.declared.figures.Figures.{Figures}
 use Rattle.std.specs.Option.{UnwrapsOrElse}
 use Rattle.order.specs.declared.order.Order.{Order}
 use Rattle.store.specs.Fun.{Fn, bit, fix}
-use Rattle.store.specs.Meaning.{Shown}
-use Rattle.store.specs.Calls.{Reply, MakesVariable, MakesCofactor, TellsValue, TellsFigures}
+use Rattle.store.specs.Meaning.{Shown, Lawful}
+use Rattle.store.specs.Calls.{Reply, Makes, TellsValue, TellsFigures}
 use Rattle.order.specs.Listing.{is_order, order_of}
-use Rattle.order.specs.Renaming.{placed, above, renamed, ordered}
+use Rattle.order.specs.Renaming.{placed, above, renamed, ordered, task_below}
 use Rattle.order.proofs.Lists.{is_order_tells, order_none, order_past, permutes_order}
 use Rattle.order.proofs.Permute.{placed_lt, placed_ge, above_stands, fix_stands}
 use Rattle.order.proofs.Rename.{reply_ordered, lawful_ordered}
@@ -23,33 +25,34 @@ within_below n xs i = ⊎_elim
     (cases_lt i n)
 
 -- an answer by the same call below
-pub made_ordered : (xs : List ℕ) (s t : Shown) (held : Bool) (f : Fn) (r : Result ℕ Refusal) → Reply s t held true f r
+same_ordered : (xs : List ℕ) (s t : Shown) (held : Bool) (f : Fn) (r : Result ℕ Refusal) → Lawful s → Reply s t held true f r
     → Reply (ordered xs s) (ordered xs t) held true (above (order_of s.vars xs) s.vars f) r
-made_ordered xs s t held f r q =
-    reply_ordered xs s q.lawful t held true _ f r (λ _. above_stands s.vars _ (permutes_order s.vars xs) f) q
+same_ordered xs s t held f r l q =
+    reply_ordered xs s l t held true _ f r (λ _. above_stands s.vars _ (permutes_order s.vars xs) f) q
+
+-- an answer to a making call by the call of the task below
+pub task_ordered : (xs : List ℕ) (s t : Shown) (task : Task) (r : Result ℕ Refusal) → Lawful s → Makes s (task_below (order_of s.vars xs) task) r t
+    → Makes (ordered xs s) task r (ordered xs t)
+task_ordered xs s t (Variable i) r l q =
+    let p = order_of s.vars xs in
+    reply_ordered xs s l t true (ltb i s.vars) (bit i) (bit (p i)) r (λ y _ _ _ _ a. a i (ltb-true i s.vars y))
+    (subst (λ (b : Bool). Reply s t true b (bit (p i)) r) (within_below s.vars xs i) q)
+task_ordered xs s t (Not a) r l q = same_ordered xs s t _ _ r l q
+task_ordered xs s t (Both op a b) r l q = same_ordered xs s t _ _ r l q
+task_ordered xs s t (Cofactor a i b) r l q =
+    let p = order_of s.vars xs in
+    let o = permutes_order s.vars xs in
+    reply_ordered xs s l t (s.held a) (ltb i s.vars) (fix i b ((ordered xs s).value a)) (fix (p i) b (s.value a)) r
+    (λ y. fix_stands s.vars p o i b _ _ (ltb-true i s.vars y) (above_stands s.vars p o (s.value a)))
+    (subst (λ (c : Bool). Reply s t (s.held a) c (fix (p i) b (s.value a)) r) (within_below s.vars xs i) q)
 
 -- s is what the store showed, and the answer is of one that shows the same
 module _ (xs : List ℕ) (s u t : Shown) (k : Figures) (told : TellsFigures s k) (same : u ≡ s) where
-  abbrev p : ℕ → ℕ
-  p = order_of s.vars xs
-
-  here : (i v : ℕ) → v ≡ order_of k.variables xs i → v ≡ p i
-  here i v e = e ∙ ap (λ n. order_of n xs i) told.variables
-
-  pub variable_ordered : (i v : ℕ) (r : Result ℕ Refusal) → v ≡ order_of k.variables xs i → MakesVariable u v r t → MakesVariable (ordered xs s) i r (ordered xs t)
-  variable_ordered i v r e h =
-      let q = subst (λ (j : ℕ). MakesVariable s j r t) (here i v e) (subst (λ (x : Shown). MakesVariable x v r t) same h) in
-      reply_ordered xs s told.lawful t true (ltb i s.vars) (bit i) (bit (p i)) r (λ y _ _ _ _ a. a i (ltb-true i s.vars y))
-      (subst (λ (b : Bool). Reply s t true b (bit (p i)) r) (within_below s.vars xs i) q)
-
-  pub cofactor_ordered : (a i v : ℕ) (b : Bool) (r : Result ℕ Refusal) → v ≡ order_of k.variables xs i → MakesCofactor u a v b r t
-      → MakesCofactor (ordered xs s) a i b r (ordered xs t)
-  cofactor_ordered a i v b r e h =
-      let o = permutes_order s.vars xs in
-      let q = subst (λ (j : ℕ). MakesCofactor s a j b r t) (here i v e) (subst (λ (x : Shown). MakesCofactor x a v b r t) same h) in
-      reply_ordered xs s told.lawful t (s.held a) (ltb i s.vars) (fix i b ((ordered xs s).value a)) (fix (p i) b (s.value a)) r
-      (λ y. fix_stands s.vars p o i b _ _ (ltb-true i s.vars y) (above_stands s.vars p o (s.value a)))
-      (subst (λ (c : Bool). Reply s t (s.held a) c (fix (p i) b (s.value a)) r) (within_below s.vars xs i) q)
+  pub made_ordered : (task v : Task) (r : Result ℕ Refusal) → v ≡ task_below (order_of k.variables xs) task → Makes u v r t
+      → Makes (ordered xs s) task r (ordered xs t)
+  made_ordered task v r e h =
+      task_ordered xs s t task r told.lawful
+      (subst (λ (j : Task). Makes s j r t) (e ∙ ap (λ n. task_below (order_of n xs) task) told.variables) (subst (λ (x : Shown). Makes x v r t) same h))
 
   pub value_ordered : (a w v : ℕ) (r : Result Bool Refusal) → v ≡ placed (order_of k.variables xs) k.variables w → TellsValue u a v r
       → TellsValue (ordered xs s) a w r

@@ -1,5 +1,7 @@
 -- A store whose variable i is variable p(i) of the store below.
 use Rattle.std.specs.Prelude.{ℕ, zero, suc, Bool, List}
+use Rattle.store.specs.declared.task.Task.{Task}
+use Rattle.store.specs.declared.task.Task.TheVariants.{Variable, Not, Both, Cofactor}
 use Rattle.store.specs.Fun.{Fn, bit, fixed}
 use Rattle.store.specs.Meaning.{Shown}
 use Rattle.order.specs.Listing.{order_of}
@@ -39,3 +41,10 @@ renamed p s = record {
 -- under the order that the list gives
 abbrev pub ordered : List ℕ → Shown → Shown
 ordered xs s = renamed (order_of s.vars xs) s
+
+-- the task below: its variable i is p(i)
+abbrev pub task_below : (ℕ → ℕ) → Task → Task
+task_below p (Variable i) = Variable (p i)
+task_below p (Not a) = Not a
+task_below p (Both op a b) = Both op a b
+task_below p (Cofactor a i t) = Cofactor a (p i) t

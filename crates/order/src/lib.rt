@@ -12,6 +12,7 @@ use order::{Order, is_order};
 use store::Store;
 use store::figures::Figures;
 use store::refusal::{Refusal, Unfit};
+use store::task::Task;
 
 #[derive(Drop)]
 pub struct Layer<S> {
@@ -46,26 +47,9 @@ impl<S: Store> Layer<S> {
 impl<S: Store> Store for Layer<S> {
     ghost shows = { λ l. ordered l.order.places.items (S.Store.shows l.store) };
 
-    fn variable(&mut self, i: u8) -> Result<u16, Refusal> {
+    fn answer(&mut self, task: Task) -> Result<u16, Refusal> {
         let n = self.store.figures().variables;
-        self.store.variable(self.order.variable_below(n, i))
-    }
-
-    fn not(&mut self, a: u16) -> Result<u16, Refusal> {
-        self.store.not(a)
-    }
-
-    fn and(&mut self, a: u16, b: u16) -> Result<u16, Refusal> {
-        self.store.and(a, b)
-    }
-
-    fn or(&mut self, a: u16, b: u16) -> Result<u16, Refusal> {
-        self.store.or(a, b)
-    }
-
-    fn cofactor(&mut self, a: u16, i: u8, t: bool) -> Result<u16, Refusal> {
-        let n = self.store.figures().variables;
-        self.store.cofactor(a, self.order.variable_below(n, i), t)
+        self.store.answer(self.order.task_below(n, task))
     }
 
     fn value(&mut self, a: u16, w: u32) -> Result<bool, Refusal> {

@@ -1,10 +1,11 @@
 // The order of a layer's variables, in a fixed array.
 ghost use Rattle.std.specs.Prelude.{◌≡◌, ◌≤◌, true, false, [], length, MatchOption};
 ghost use Rattle.order.specs.Listing.{times, is_order, order_of};
-ghost use Rattle.order.specs.Renaming.{placed};
+ghost use Rattle.order.specs.Renaming.{placed, task_below};
 
 use arrayvec::ArrayVec;
 use store::bits::{bit, with_bit};
+use store::task::Task;
 
 // The places hold each number below their count once.
 #[derive(Drop)]
@@ -59,6 +60,17 @@ impl Order {
             return i;
         }
         self.places.get(i as usize).copied().unwrap_or(i)
+    }
+
+    // The task below, of n variables: its variable is the one below.
+    pub(super) fn task_below(&self, n: u8, task: Task) -> Task
+        ensures { result ≡ task_below (order_of n self.now.places.items) task }
+    {
+        match task {
+            Task::Variable(i) => Task::Variable(self.variable_below(n, i)),
+            Task::Cofactor(a, i, t) => Task::Cofactor(a, self.variable_below(n, i), t),
+            Task::Not(_) | Task::Both(_, _, _) => task,
+        }
     }
 
     // The valuation below for w, of n variables.

@@ -4,7 +4,9 @@ use Rattle.store.specs.declared.figures.Figures.{Figures}
 use Rattle.store.specs.declared.refusal.Refusal.{Refusal}
 use Rattle.store.specs.declared.refusal.Refusal.TheVariants.{Number, Variable, Room}
 use Rattle.store.specs.Fun.{Fn, bit, fix}
+use Rattle.store.specs.declared.task.Task.{Task}
 use Rattle.store.specs.Meaning.{Shown, price, free, Lawful, Made}
+use Rattle.store.specs.Tasks.{operands, within, asked}
 
 -- the number of f, or the free units where the price of f exceeds them
 abbrev pub Answers : Shown → Shown → Fn → Result ℕ Refusal → Type 0
@@ -20,6 +22,10 @@ pub record Reply (s t : Shown) (held within : Bool) (f : Fn) (r : Result ℕ Ref
   pub number : held ≡ false → (t ≡ s) × (r ≡ Err Number)
   pub variable : held ≡ true → within ≡ false → (t ≡ s) × (r ≡ Err Variable)
   pub answers : held ≡ true → within ≡ true → Answers s t f r
+
+-- the answer to the task
+abbrev pub Makes : Shown → Task → Result ℕ Refusal → Shown → Type 0
+Makes s task r t = Reply s t (operands s task) (within s task) (asked s task) r
 
 abbrev pub MakesVariable : Shown → ℕ → Result ℕ Refusal → Shown → Type 0
 MakesVariable s i r t = Reply s t true (nat_lt i s.vars) (bit i) r

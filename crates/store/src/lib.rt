@@ -3,7 +3,7 @@
 
 ghost use Rattle.std.specs.Prelude.{◌≡◌};
 ghost use Rattle.store.specs.Meaning.{Shown};
-ghost use Rattle.store.specs.Calls.{MakesVariable, MakesNot, MakesAnd, MakesOr, MakesCofactor, TellsValue, TellsFigures};
+ghost use Rattle.store.specs.Calls.{Makes, MakesVariable, MakesNot, MakesAnd, MakesOr, MakesCofactor, TellsValue, TellsFigures};
 ghost use Rattle.store.specs.Numbers.{number_of};
 
 pub mod bits;
@@ -14,6 +14,7 @@ pub mod task;
 
 use figures::Figures;
 use refusal::Refusal;
+use task::{Op, Task};
 
 impl Refusal {
     pub fn number(self) -> u8
@@ -30,22 +31,40 @@ impl Refusal {
 pub trait Store {
     ghost shows: { Self → Shown };
 
-    // The making calls.
-    fn variable(&mut self, i: u8) -> Result<u16, Refusal>
-        ensures { MakesVariable (shows self.old) i result (shows self.new) };
+    // The reply to a making call, which is one of those below.
+    fn answer(&mut self, task: Task) -> Result<u16, Refusal>
+        ensures { Makes (shows self.old) task result (shows self.new) };
 
-    fn not(&mut self, a: u16) -> Result<u16, Refusal>
-        ensures { MakesNot (shows self.old) a result (shows self.new) };
+    final fn variable(&mut self, i: u8) -> Result<u16, Refusal>
+        ensures { MakesVariable (shows self.old) i result (shows self.new) }
+    {
+        self.answer(Task::Variable(i))
+    }
 
-    fn and(&mut self, a: u16, b: u16) -> Result<u16, Refusal>
-        ensures { MakesAnd (shows self.old) a b result (shows self.new) };
+    final fn not(&mut self, a: u16) -> Result<u16, Refusal>
+        ensures { MakesNot (shows self.old) a result (shows self.new) }
+    {
+        self.answer(Task::Not(a))
+    }
 
-    fn or(&mut self, a: u16, b: u16) -> Result<u16, Refusal>
-        ensures { MakesOr (shows self.old) a b result (shows self.new) };
+    final fn and(&mut self, a: u16, b: u16) -> Result<u16, Refusal>
+        ensures { MakesAnd (shows self.old) a b result (shows self.new) }
+    {
+        self.answer(Task::Both(Op::And, a, b))
+    }
+
+    final fn or(&mut self, a: u16, b: u16) -> Result<u16, Refusal>
+        ensures { MakesOr (shows self.old) a b result (shows self.new) }
+    {
+        self.answer(Task::Both(Op::Or, a, b))
+    }
 
     // The function a with variable i fixed to t.
-    fn cofactor(&mut self, a: u16, i: u8, t: bool) -> Result<u16, Refusal>
-        ensures { MakesCofactor (shows self.old) a i t result (shows self.new) };
+    final fn cofactor(&mut self, a: u16, i: u8, t: bool) -> Result<u16, Refusal>
+        ensures { MakesCofactor (shows self.old) a i t result (shows self.new) }
+    {
+        self.answer(Task::Cofactor(a, i, t))
+    }
 
     // The questions: they change nothing that is shown.
     fn value(&mut self, a: u16, w: u32) -> Result<bool, Refusal>

@@ -8,7 +8,7 @@ use Rattle.store.proofs.Same.{holds_like, same_refl, same_sym}
 use Rattle.records.specs.Contents.{entries, room}
 use Rattle.records.proofs.Contents.{entries_fit}
 use Rattle.table.specs.declared.Table.{Table}
-use Rattle.table.specs.Replies.{shows}
+use Rattle.table.specs.Store.{shows}
 use Rattle.table.specs.declared.truths.Truths.{Truths}
 use Rattle.table.specs.Shows.{shown, sound, suits}
 use Rattle.table.proofs.Sound.{sound_tells, sound_empty}

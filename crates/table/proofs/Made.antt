@@ -22,7 +22,7 @@ use Rattle.store.proofs.Making.{made_of}
 use Rattle.table.specs.declared.Table.{Table}
 use Rattle.table.specs.declared.truths.Truths.{Truths}
 use Rattle.table.specs.Tables.{truth, table, Constant}
-use Rattle.table.specs.Replies.{shows}
+use Rattle.table.specs.Store.{shows}
 use Rattle.table.specs.Shows.{kept, value, shown, sound}
 use Rattle.table.proofs.Tables.{truth_table, table_same}
 use Rattle.table.proofs.Sound.{sound_tells, sound_push, value_left, value_seam}

@@ -1,4 +1,4 @@
 pub mod Tables
 pub mod Shows
 pub mod Identity
-pub mod Replies
+pub mod Store

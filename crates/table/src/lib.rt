@@ -15,7 +15,7 @@ use store::Store;
 use store::figures::Figures;
 use store::fitting::fit;
 use store::refusal::{Refusal, Unfit};
-use store::task::{Op, Task, check_value};
+use store::task::{Task, check_value};
 use truths::Truths;
 
 // Number 0 is false, 1 is true, and k + 2 is the function of record k.
@@ -59,24 +59,9 @@ impl<'a> Table<'a> {
 impl Store for Table<'_> {
     ghost shows = { λ d. showing d.n d.list };
 
-    fn variable(&mut self, i: u8) -> Result<u16, Refusal> {
-        self.answer(Task::Variable(i))
-    }
-
-    fn not(&mut self, a: u16) -> Result<u16, Refusal> {
-        self.answer(Task::Not(a))
-    }
-
-    fn and(&mut self, a: u16, b: u16) -> Result<u16, Refusal> {
-        self.answer(Task::Both(Op::And, a, b))
-    }
-
-    fn or(&mut self, a: u16, b: u16) -> Result<u16, Refusal> {
-        self.answer(Task::Both(Op::Or, a, b))
-    }
-
-    fn cofactor(&mut self, a: u16, i: u8, t: bool) -> Result<u16, Refusal> {
-        self.answer(Task::Cofactor(a, i, t))
+    fn answer(&mut self, task: Task) -> Result<u16, Refusal> {
+        task.check(self.held(), self.n)?;
+        self.make(task)
     }
 
     fn value(&mut self, a: u16, w: u32) -> Result<bool, Refusal> {

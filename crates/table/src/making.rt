@@ -4,7 +4,7 @@ ghost use Rattle.records.specs.Contents.{entries};
 ghost use Rattle.store.specs.Calls.{Answers};
 ghost use Rattle.store.specs.Tasks.{within, asked};
 ghost use Rattle.table.specs.Shows.{value};
-ghost use Rattle.table.specs.Replies.{shows, Replies};
+ghost use Rattle.table.specs.Store.{shows};
 ghost use Rattle.table.specs.Tables.{table};
 
 use super::Table;
@@ -53,7 +53,7 @@ impl Table<'_> {
     }
 
     // The number of what the task asks for: a constant has its own, and another table is found or added.
-    fn make(&mut self, task: Task) -> Result<u16, Refusal>
+    pub(super) fn make(&mut self, task: Task) -> Result<u16, Refusal>
         requires { within (shows self.old) task ≡ true }
         ensures { Answers (shows self.old) (shows self.new) (asked (shows self.old) task) result }
     {
@@ -65,13 +65,5 @@ impl Table<'_> {
             Ok(k) => Ok(k as u16 + 2),
             Err(Full) => Err(Refusal::Room(0)),
         }
-    }
-
-    // The reply to a making call.
-    pub(super) fn answer(&mut self, task: Task) -> Result<u16, Refusal>
-        ensures { Replies self.old task result self.new }
-    {
-        task.check(self.held(), self.n)?;
-        self.make(task)
     }
 }

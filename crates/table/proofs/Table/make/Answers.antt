@@ -2,7 +2,7 @@ use Rattle.std.proofs.Common.{Ok, Err, Some, arith}
 use Rattle.records.specs.Contents.{entries, room}
 use Rattle.records.proofs.Contents.{entries_fit}
 use Rattle.store.specs.Tasks.{asked}
-use Rattle.table.specs.Replies.{shows}
+use Rattle.table.specs.Store.{shows}
 use Rattle.table.proofs.Made.{made_constant, constant_of, sound_after, narrow_after, answers_after}
 use Rattle.table.proofs.Table.make.Goals as goal
 

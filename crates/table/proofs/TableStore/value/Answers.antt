@@ -2,7 +2,7 @@ use Rattle.std.proofs.Common.{◌^◌, nat_lt, sym, ap, ◌∙◌}
 use Rattle.std.proofs.lemmas.Result.{err_from_is_err_and}
 use Rattle.store.specs.Tasks.{allowed}
 use Rattle.store.proofs.Replies.{value_refused, value_told}
-use Rattle.table.specs.Replies.{shows}
+use Rattle.table.specs.Store.{shows}
 use Rattle.table.proofs.Lawful.{lawful_table}
 use Rattle.table.proofs.TableStore.value.Goals as goal
 

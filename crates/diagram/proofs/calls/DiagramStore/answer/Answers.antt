@@ -3,7 +3,7 @@ use Rattle.store.proofs.Replies.{reply_refused, reply_made}
 use Rattle.diagram.specs.Shows.{showing}
 use Rattle.diagram.proofs.Fields.{lawful_of}
 use Rattle.diagram.proofs.Replies.{answered}
-use Rattle.diagram.proofs.Diagram.answer.Goals as goal
+use Rattle.diagram.proofs.calls.DiagramStore.answer.Goals as goal
 
 pub returns-in_err-check : goal.returns-in_err-check
 returns-in_err-check c =

@@ -2,9 +2,9 @@ use Rattle.std.proofs.Common.{nat_lt, sym, ap, ◌∙◌}
 use Rattle.std.proofs.lemmas.Result.{err_from_is_err_and}
 use Rattle.store.specs.Tasks.{names, ranges, allowed}
 use Rattle.store.proofs.Replies.{reply_refused, reply_made}
-use Rattle.table.specs.Replies.{shows}
+use Rattle.table.specs.Store.{shows}
 use Rattle.table.proofs.Lawful.{lawful_table}
-use Rattle.table.proofs.Table.answer.Goals as goal
+use Rattle.table.proofs.TableStore.answer.Goals as goal
 
 pub returns-in_err-check : goal.returns-in_err-check
 returns-in_err-check c =

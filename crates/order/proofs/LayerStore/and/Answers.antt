@@ -1,5 +1,0 @@
-use Rattle.order.proofs.Calls.{made_ordered}
-use Rattle.order.proofs.LayerStore.and.Goals as goal
-
-pub returns : goal.returns
-returns g c = made_ordered c.args.self.now.order.places.items _ _ _ _ _ c.and.ensures
