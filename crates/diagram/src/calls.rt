@@ -17,6 +17,7 @@ impl Store for Diagram<'_> {
         self.finish(used, made)
     }
 
+    // Each make says this: a trait that said it once would show the truth of a number that may not be held.
     fn value(&mut self, a: u16, w: u32) -> Result<bool, Refusal> {
         check_value(a, w, self.held(), self.n)?;
         Ok(self.truth(a, w))

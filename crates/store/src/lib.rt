@@ -28,6 +28,7 @@ impl Refusal {
     }
 }
 
+// That what is shown is lawful is in each reply, and no law: lists of calls have no store, and only what one shows.
 pub trait Store {
     ghost shows: { Self → Shown };
 
