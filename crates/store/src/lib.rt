@@ -17,6 +17,7 @@ use refusal::Refusal;
 use task::{Op, Task};
 
 impl Refusal {
+    // A method, since `as` takes no enum that holds values.
     pub fn number(self) -> u8
         ensures { result ≡ number_of self }
     {
