@@ -1,5 +1,5 @@
 -- One load of a session.
-use Rattle.std.specs.Prelude.{◌≡◌, ℕ, cond, List, ◌==◌, slice_index_or}
+use Rattle.std.specs.Prelude.{◌≡◌, ℕ, cond, List, [], ◌==◌}
 use Rattle.circuit.specs.Reading.{netlist}
 use Rattle.claim.specs.Grammar.{post}
 use Rattle.claim.specs.Result.{used}
@@ -7,7 +7,7 @@ use Rattle.making.specs.declared.parts.Built.{Built}
 use Rattle.runs.specs.Models.{Model, Describes}
 use Rattle.uses.specs.declared.verdict.Verdict.TheVariants as verdict
 use Rattle.engine.specs.declared.described.Described.{Described}
-use Rattle.engine.specs.declared.inner.Inner.{Inner}
+use Rattle.engine.specs.declared.search.Search.{Search}
 
 -- the circuit and the codes are those of the model that the file and the texts describe
 pub record Understood (width : ℕ) (file : List ℕ) (assumption : List ℕ) (property : List ℕ) (x : Described) : Type 0 where
@@ -18,8 +18,8 @@ pub record Understood (width : ℕ) (file : List ℕ) (assumption : List ℕ) (p
   pub promised : used x.property ≡ post model.property
 
 -- the numbers of a load, its set as the first, and the verdict with it
-pub record BeginsFrom (b : Built) (r : Inner) : Type 0 where
-  pub parts : r.parts ≡ b.parts
-  pub set : slice_index_or r.sets 0 0 ≡ b.set
-  pub count : r.count ≡ 0
-  pub verdict : r.verdict ≡ cond (b.met == 0) verdict.Open (verdict.Unsafe 0)
+pub record BeginsFrom (b : Built) (k : Search) : Type 0 where
+  pub parts : k.parts ≡ b.parts
+  pub earlier : k.earlier.items ≡ []
+  pub set : k.set ≡ b.set
+  pub verdict : k.verdict ≡ cond (b.met == 0) verdict.Open (verdict.Unsafe 0)

@@ -7,8 +7,9 @@ ghost use Rattle.engine.specs.Keeping.{world, Next};
 ghost use Rattle.engine.specs.Loading.{Understood, BeginsFrom};
 
 use super::described::Described;
-use super::inner::Inner;
+use super::search::Search;
 use super::session::Session;
+use arrayvec::ArrayVec;
 use circuit::circuit::Circuit;
 use circuit::sizes::Sizes;
 use making::build;
@@ -57,21 +58,19 @@ fn understand(
     })
 }
 
-// What a session keeps after a load.
-fn begin(built: Built) -> Inner
+// The search that a load begins.
+fn begin(built: Built) -> Search
     ensures { BeginsFrom built result }
 {
-    let mut sets = [0; 257];
-    sets[0] = built.set;
     let verdict = if built.met == 0 {
         Verdict::Open
     } else {
         Verdict::Unsafe(0)
     };
-    Inner {
+    Search {
         parts: built.parts,
-        sets,
-        count: 0,
+        earlier: ArrayVec::new(),
+        set: built.set,
         verdict,
     }
 }
@@ -84,11 +83,10 @@ impl<S: Store> Session<S> {
         property: &[u8],
     ) -> Result<Verdict, Fault>
         ensures next { Next (world S.Store.shows self.old) (load file.now assumption.now property.now result) (world S.Store.shows self.new) }
-        ensures refused { is_err result ≡ true → self.new.inner ≡ self.old.inner }
+        ensures refused { is_err result ≡ true → self.new.search ≡ self.old.search }
     {
-        match self.inner.verdict {
-            Verdict::Empty => {}
-            _ => return Err(Fault::Loaded),
+        if self.search.is_some() {
+            return Err(Fault::Loaded);
         }
         let width = self.store.figures().variables;
         let described = understand(file, assumption, property, width)?;
@@ -98,8 +96,9 @@ impl<S: Store> Session<S> {
             &described.assumption,
             &described.property,
         )?;
-        let inner = begin(built);
-        self.inner = inner;
-        Ok(inner.verdict)
+        let search = begin(built);
+        let verdict = search.verdict;
+        self.search = Some(search);
+        Ok(verdict)
     }
 }

@@ -10,10 +10,8 @@ use Rattle.claim.proofs.Exactly.{exact}
 use Rattle.making.specs.declared.fault.Fault.{Fault}
 use Rattle.making.specs.declared.fault.Fault.TheVariants as fault
 use Rattle.runs.specs.Models.{Model, sizes, Describes}
+use Rattle.uses.proofs.Told.{never}
 use Rattle.uses.specs.Calls.{Checked, right, wrong_circuit, wrong_assumption, wrong_property}
-
-pub never : {X : Type 0} → ◌≡◌ {A = ℕ} 0 1 → X
-never e = absurd (omega arith)
 
 -- texts of one circuit
 module _ {r : Result Netlist Refusal} {c c' : Netlist} (e : r ≡ Ok c) (e' : r ≡ Ok c') where

@@ -7,7 +7,8 @@ use Rattle.uses.specs.declared.verdict.Verdict.{Verdict}
 use Rattle.uses.specs.Calls.{loaded, told, Call, load, advance, ask, trace, inside, Stand, Event}
 use Rattle.uses.specs.Uses.{Step, load_twice, load_wrong, load_full, loads, advance_empty, advance_settled, advance_full, advances, asks, trace_empty, trace_verdict, trace_short, traces, inside_empty, inside_verdict, inside_state, insides}
 use Rattle.uses.specs.Steps.{Alike, both_load, both_advance, both_ask, both_trace, both_inside, Full, full_load, full_advance, Determined}
-use Rattle.uses.proofs.Checks.{never, one_check}
+use Rattle.uses.proofs.Checks.{one_check}
+use Rattle.uses.proofs.Told.{never}
 use Rattle.uses.proofs.Written.{written_like}
 use Rattle.uses.proofs.Uses.{closed, Come, come}
 

@@ -13,7 +13,8 @@ use Rattle.uses.specs.declared.verdict.Verdict.{Verdict as Answer}
 use Rattle.uses.specs.Calls.{State, empty, loaded, load, advance, trace, inside, Stand, stand, Event, Checked, right}
 use Rattle.uses.specs.Uses.{Step, load_twice, load_wrong, load_full, loads, advance_empty, advance_settled, advance_full, advances, asks, trace_empty, trace_verdict, trace_short, traces, inside_empty, inside_verdict, inside_state, insides}
 use Rattle.uses.specs.Steps.{Answered, Possible}
-use Rattle.uses.proofs.Checks.{never, some_check}
+use Rattle.uses.proofs.Checks.{some_check}
+use Rattle.uses.proofs.Told.{never}
 use Rattle.uses.proofs.Uses.{closed, Come, come}
 
 module _ (s : Shown) where

@@ -17,7 +17,7 @@ use Rattle.uses.specs.declared.verdict.Verdict.TheVariants as verdict
 use Rattle.uses.specs.Calls.{State, empty, loaded, tell, told, Call, load, advance, trace, Stand, Event, event, Checked, right}
 use Rattle.uses.specs.Uses.{Step, load_wrong, load_full, advance_full, traces, Use, begun, went_on}
 use Rattle.uses.specs.Promise.{load_bound, advance_bound, ShortOf, Fair, Every, none, each, Meant, Says, Promised}
-use Rattle.uses.proofs.Checks.{never}
+use Rattle.uses.proofs.Told.{tell_safe, tell_open, tell_unsafe}
 use Rattle.uses.proofs.Texts.{read_operators}
 use Rattle.uses.proofs.Written.{written_at, breaking_like}
 use Rattle.uses.proofs.Uses.{closed, Come, come}
@@ -69,22 +69,6 @@ fair_step h {w = w} {v = v} s g = record {
 fair : {h : List Event} {w : Stand} → Use h w → Every Fair h
 fair begun = none
 fair (went_on {h = h} u s) = each (fair_step h s (come u)) (fair u)
-
--- the verdict in the session's words
-tell_safe : (v : Verdict) → tell v ≡ verdict.Safe → v ≡ safe
-tell_safe (unsafe d) e = never (cc)
-tell_safe safe e = refl
-tell_safe open_yet e = never (cc)
-
-tell_open : (v : Verdict) → tell v ≡ verdict.Open → v ≡ open_yet
-tell_open (unsafe d) e = never (cc)
-tell_open safe e = never (cc)
-tell_open open_yet e = refl
-
-tell_unsafe : (v : Verdict) (d : ℕ) → tell v ≡ verdict.Unsafe d → v ≡ unsafe d
-tell_unsafe (unsafe k) d e = let h : k ≡ d = cc in ap unsafe h
-tell_unsafe safe d e = never (cc)
-tell_unsafe open_yet d e = never (cc)
 
 meant : (m : Model) (j : ℕ) → Meaning (system m) j → Meant m j (told (loaded m j))
 meant m j y = record {
