@@ -1,5 +1,4 @@
 pub mod Told
-pub mod Checks
 mod Texts
 pub mod Written
 pub mod Uses

@@ -1,6 +1,9 @@
 -- From a use of a session to what is promised of it.
 use Rattle.std.proofs.Common.{◌≡◌, ℕ, suc, ◌≤◌, List, length, get_or, Ok, Err, refl, ap, subst, mul-le-mul_right, arith}
 use Rattle.store.specs.Meaning.{Shown, free}
+use Rattle.description.specs.Checks.{Checked, right}
+use Rattle.description.specs.declared.part.Part.{Part}
+use Rattle.description.specs.declared.fault.Fault.{Fault as Misdescription}
 use Rattle.making.specs.declared.fault.Fault.TheVariants as fault
 use Rattle.making.specs.Making.{Item, Stops}
 use Rattle.making.specs.Loads.{load_list, advance_list}
@@ -14,7 +17,7 @@ use Rattle.runs.specs.Models.{Model, system}
 use Rattle.runs.proofs.Verdicts.{verdicts}
 use Rattle.runs.proofs.Traces as runs
 use Rattle.uses.specs.declared.verdict.Verdict.TheVariants as verdict
-use Rattle.uses.specs.Calls.{State, empty, loaded, tell, told, Call, load, advance, trace, Stand, Event, event, Checked, right}
+use Rattle.uses.specs.Calls.{State, empty, loaded, tell, told, Call, load, advance, trace, Stand, Event, event}
 use Rattle.uses.specs.Uses.{Step, load_wrong, load_full, advance_full, traces, Use, begun, went_on}
 use Rattle.uses.specs.Promise.{load_bound, advance_bound, ShortOf, Fair, Every, none, each, Meant, Says, Promised}
 use Rattle.uses.proofs.Told.{tell_safe, tell_open, tell_unsafe}
@@ -39,12 +42,11 @@ load_calls {m = m} (right d) =
     let p = read_operators d.property in
     omega (arith, load_length m)
 
-load_room : {w v : Stand} {x a p : List ℕ} {q l u : ℕ} → Step w (load x a p (Err (fault.Room q l u))) v
+load_room : {w v : Stand} {x a p : List ℕ} {q : Part} {l u : ℕ} → Step w (load x a p (Err (fault.Room q l u))) v
     → (m : Model) × Checked w.store.vars x a p (Ok m) × ShortOf w.store v.store (load_list m) (load_bound m (length a) (length p)) q l u
-load_room (load_wrong k) = elim k [ ]
 load_room (load_full {a = a} {p = p} {m = m} k q) = (m, k, short_of (load_bound m (length a) (length p)) q (load_calls k))
 
-advance_room : {w v : Stand} {q l u : ℕ} → Step w (advance (Err (fault.Room q l u))) v
+advance_room : {w v : Stand} {q : Part} {l u : ℕ} → Step w (advance (Err (fault.Room q l u))) v
     → (m : Model) × (j : ℕ) × (w.state ≡ loaded m j) × ShortOf w.store v.store (advance_list m j) (advance_bound m) q l u
 advance_room (advance_full {m = m} {j = j} o q) = (m, j, refl, short_of (advance_bound m) q (advance_length m j))
 
