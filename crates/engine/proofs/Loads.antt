@@ -7,28 +7,29 @@ use Rattle.store.specs.Meaning.{Shown}
 use Rattle.circuit.specs.Netlists.{Netlist}
 use Rattle.circuit.specs.Reading.{netlist}
 use Rattle.claim.specs.Result.{used}
+use Rattle.description.specs.Checks.{Checked, right}
+use Rattle.description.specs.Results.{Understood}
+use Rattle.description.specs.declared.described.Described.{Described}
+use Rattle.description.specs.declared.fault.Fault.{Fault as Misdescription}
 use Rattle.making.specs.declared.fault.Fault.{Fault}
 use Rattle.making.specs.declared.fault.Fault.TheVariants as fault
 use Rattle.making.specs.declared.parts.Built.{Built}
 use Rattle.making.specs.declared.parts.Parts.{Parts}
 use Rattle.making.specs.Ends.{Ends, made, stuck, located}
-use Rattle.making.specs.Loads.{load_list, Kept, Loaded}
+use Rattle.making.specs.Loads.{load_list, Loaded}
 use Rattle.making.specs.Making.{Means}
 use Rattle.making.specs.Promises.{Builds}
 use Rattle.runs.specs.Functions.{both}
-use Rattle.runs.specs.Models.{Model, system, Valid}
+use Rattle.runs.specs.Models.{Model, Valid}
 use Rattle.runs.specs.Search.{stable, unsafe, open_yet, verdict_by}
-use Rattle.runs.specs.Search as search
-use Rattle.runs.specs.Valuations.{claim_fn, next_fn, init_fn, set_fn}
+use Rattle.runs.specs.Valuations.{claim_fn, init_fn, set_fn}
 use Rattle.runs.proofs.Models.{functions_exact, descriptions_valid}
-use Rattle.uses.specs.declared.verdict.Verdict.{Verdict}
 use Rattle.uses.specs.declared.verdict.Verdict.TheVariants as verdict
-use Rattle.uses.specs.Calls.{empty, loaded, tell, told, load, stand, Checked, right}
+use Rattle.uses.specs.Calls.{empty, loaded, tell, told, load, stand}
 use Rattle.uses.specs.Uses.{Step, load_twice, load_wrong, load_full, loads}
-use Rattle.engine.specs.declared.described.Described.{Described}
 use Rattle.engine.specs.declared.search.Search.{Search}
 use Rattle.engine.specs.Keeping.{World, searching, Next}
-use Rattle.engine.specs.Loading.{Understood, BeginsFrom}
+use Rattle.engine.specs.Loading.{BeginsFrom}
 use Rattle.engine.proofs.Keepings.{Leads_on, from_none, stays_some}
 use Rattle.engine.proofs.Meeting.{misses, meets}
 
@@ -38,10 +39,10 @@ module _ (x a p : List ℕ) (w : World) where
 
   -- the store after the question how wide it is
   module _ (e : w.search ≡ None) (t : Shown) (same : t ≡ w.store) (f : Figures) (told_of : TellsFigures w.store f) where
-    pub when_wrong : (i : Fault) → Checked f.variables x a p (Err i) → Next w (load x a p (Err i)) (record { store = t; search = w.search })
+    pub when_wrong : (i : Misdescription) → Checked f.variables x a p (Err i) → Next w (load x a p (Err (fault.Description i))) (record { store = t; search = w.search })
     when_wrong i c = from_none w _ (record { store = t; search = w.search }) e (
       empty,
-      subst (λ s. Step (stand empty w.store) (load x a p (Err i)) (stand empty s)) (sym same) (load_wrong (subst (λ n. Checked n x a p (Err i)) told_of.variables c)),
+      subst (λ s. Step (stand empty w.store) (load x a p (Err (fault.Description i))) (stand empty s)) (sym same) (load_wrong (subst (λ n. Checked n x a p (Err i)) told_of.variables c)),
       e,
     )
 

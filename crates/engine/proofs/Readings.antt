@@ -6,7 +6,7 @@ use Rattle.store.specs.Meaning.{Shown}
 use Rattle.store.specs.Calls.{TellsValue}
 use Rattle.making.specs.declared.fault.Fault.{Fault}
 use Rattle.making.specs.declared.parts.Parts.{Parts}
-use Rattle.making.specs.Making.{Means}
+use Rattle.making.specs.Making.{Means, unpaired}
 use Rattle.runs.specs.Functions.{spread}
 use Rattle.runs.specs.Valuations.{set_fn}
 use Rattle.runs.specs.Models.{Model, system, Valid}
@@ -70,11 +70,11 @@ module _ (s : Shown) (m : Model) (k : Parts) (h : Readable s m k) where
       at_spread k.property _ q v r h.property lq lv t
       ∙ ap Ok ((functions_exact m h.valid).stepped.stands.claims (spread m.circuit.registers q v) ∙ ap₂ (system m).property p.state p.input)
 
-  pub next_is : (i a q v : ℕ) (r : Result Bool Fault) → i < k.n → a ≡ get_or k.nexts i 0 → State (system m) q → Input (system m) v → Tells s k.n a q v r
+  pub next_is : (i a q v : ℕ) (r : Result Bool Fault) → i < k.n → a ≡ (get_or k.nexts.items i unpaired).function → State (system m) q → Input (system m) v → Tells s k.n a q v r
       → r ≡ Ok (bit i ((system m).next q v))
   next_is i a q v r l e lq lv t =
       let p = spreads m.circuit.registers m.circuit.inputs q v lq lv in
-      at_spread (get_or k.nexts i 0) _ q v r (h.parts.nexts i l) lq lv (subst (λ x. Tells s k.n x q v r) e t)
+      at_spread (get_or k.nexts.items i unpaired).function _ q v r (h.parts.nexts i l).function lq lv (subst (λ x. Tells s k.n x q v r) e t)
       ∙ ap Ok ((functions_exact m h.valid).stepped.stands.nexts i (subst (λ n. i < n) h.registers l) (spread m.circuit.registers q v)
       ∙ ap₂ (λ x y. bit i ((system m).next x y)) p.state p.input)
 

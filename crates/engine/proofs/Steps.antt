@@ -6,6 +6,8 @@ use Rattle.store.specs.Fun.{Fn, bit, same}
 use Rattle.store.specs.Calls.{Reply}
 use Rattle.store.specs.Meaning.{Shown, Lawful, Grown}
 use Rattle.store.proofs.Same.{decides_same}
+use Rattle.description.specs.declared.part.Part.{Part}
+use Rattle.description.specs.declared.part.Part.TheVariants.{Sets}
 use Rattle.making.specs.declared.fault.Fault.{Fault}
 use Rattle.making.specs.Ends.{Ends, made, plain, located}
 use Rattle.making.specs.Making.{Item, at, Runs, ended, Means}
@@ -27,7 +29,7 @@ use Rattle.engine.specs.declared.search.Search.{Search}
 use Rattle.engine.specs.Advancing.{Ready, Reaches}
 use Rattle.engine.proofs.Meeting.{misses, meets}
 
-lies_back : (p l n m : ℕ) (next : ℕ → Fn) (h f : Fn) → Lies p l (back_list p l n m next h f)
+lies_back : (p : Part) (l n m : ℕ) (next : ℕ → Fn) (h f : Fn) → Lies p l (back_list p l n m next h f)
 lies_back p l n m next h f =
     let x = composed_all_list p l register (λ i. bit (copy i)) f n in
     let y = composed_all_list p l copy next (copied n f) n in
@@ -38,16 +40,16 @@ lies_back p l n m next h f =
 
 module _ (m : Model) (j : ℕ) where
   abbrev pub back_at : List Item
-  back_at = back_list 4 j m.circuit.registers m.circuit.inputs (next_fn m) (claim_fn m m.assumption) (set_fn m j)
+  back_at = back_list Sets j m.circuit.registers m.circuit.inputs (next_fn m) (claim_fn m m.assumption) (set_fn m j)
 
   abbrev pub last_at : List Item
-  last_at = at 4 j (both (back_fn m j) (init_fn m) ∷ [])
+  last_at = at Sets j (both (back_fn m j) (init_fn m) ∷ [])
 
   abbrev pub equal_at : Bool
   equal_at = same m.circuit.registers (bad (system m) (suc j)) (bad (system m) j)
 
-  pub lies : Lies 4 j back_at
-  lies = lies_back 4 j m.circuit.registers m.circuit.inputs (next_fn m) (claim_fn m m.assumption) (set_fn m j)
+  pub lies : Lies Sets j back_at
+  lies = lies_back Sets j m.circuit.registers m.circuit.inputs (next_fn m) (claim_fn m m.assumption) (set_fn m j)
 
   module _ (s : Shown) (k : Search) (d : Ready s m j k) where
     wide : 2 * m.circuit.registers + m.circuit.inputs ≤ s.vars
@@ -59,9 +61,9 @@ module _ (m : Model) (j : ℕ) where
     -- the calls up to the next set
     pub backed : (r : Result ℕ Refusal) (t : Shown) → StepsBack s k.set k.parts r t → Ends plain s t back_at (λ a. Means t a (back_fn m j)) r
     backed r t f =
-        subst (λ n. Ends plain s t (back_list 4 j n m.circuit.inputs (next_fn m) (claim_fn m m.assumption) (set_fn m j)) (λ a. Means t a (back_of n m.circuit.inputs (next_fn m) (claim_fn m m.assumption) (set_fn m j))) r) d.registers
-        (subst (λ i. Ends plain s t (back_list 4 j k.parts.n i (next_fn m) (claim_fn m m.assumption) (set_fn m j)) (λ a. Means t a (back_of k.parts.n i (next_fn m) (claim_fn m m.assumption) (set_fn m j))) r) d.inputs
-        (f 4 j (set_fn m j) (claim_fn m m.assumption) (next_fn m) d.set d.parts))
+        subst (λ n. Ends plain s t (back_list Sets j n m.circuit.inputs (next_fn m) (claim_fn m m.assumption) (set_fn m j)) (λ a. Means t a (back_of n m.circuit.inputs (next_fn m) (claim_fn m m.assumption) (set_fn m j))) r) d.registers
+        (subst (λ i. Ends plain s t (back_list Sets j k.parts.n i (next_fn m) (claim_fn m m.assumption) (set_fn m j)) (λ a. Means t a (back_of k.parts.n i (next_fn m) (claim_fn m m.assumption) (set_fn m j))) r) d.inputs
+        (f Sets j (set_fn m j) (claim_fn m m.assumption) (next_fn m) d.set d.parts))
 
     module _ {t : Shown} (a : ℕ) (r : Runs s back_at t) (q : Means t a (back_fn m j)) (l : Lawful t) where
       pub next_set : Means t a (set_fn m (suc j))

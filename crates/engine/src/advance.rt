@@ -8,6 +8,7 @@ ghost use Rattle.engine.specs.Advancing.{Advances};
 use super::found::Found;
 use super::search::Search;
 use super::session::Session;
+use description::part::Part;
 use making::fault::Fault;
 use making::{back, place_at};
 use store::Store;
@@ -20,10 +21,10 @@ impl Search {
         ensures { Advances (S.Store.shows store.old) self.now result (S.Store.shows store.new) }
     {
         let count = self.earlier.len() as u16;
-        let set = place_at(back(store, self.set, &self.parts), 4, count)?;
+        let set = place_at(back(store, self.set, &self.parts), Part::Sets, count)?;
         let verdict = if set == self.set {
             Verdict::Safe
-        } else if place_at(store.and(set, self.parts.init), 4, count)? == 0 {
+        } else if place_at(store.and(set, self.parts.init), Part::Sets, count)? == 0 {
             Verdict::Open
         } else {
             Verdict::Unsafe(count + 1)

@@ -2,7 +2,6 @@
 #![tactic(auto)]
 
 mod advance;
-mod described;
 mod finding;
 mod found;
 mod load;

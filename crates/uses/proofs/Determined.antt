@@ -1,8 +1,5 @@
 -- A call with its arguments has one answer, unless it is refused for room.
 use Rattle.std.proofs.Common.{◌≡◌, ℕ, suc, Bool, ◌⊎◌, List, Ok, Err, Result, refl, ap, ap₂, inl, inr, arith}
-use Rattle.description.specs.Checks.{Checked, right}
-use Rattle.description.specs.declared.part.Part.{Part}
-use Rattle.description.specs.declared.fault.Fault.{Fault as Misdescription}
 use Rattle.making.specs.declared.fault.Fault.{Fault}
 use Rattle.making.specs.declared.fault.Fault.TheVariants.{Description}
 use Rattle.runs.specs.Models.{system}

@@ -3,7 +3,6 @@ use Rattle.std.proofs.Common.{◌≡◌, ℕ, suc, ◌^◌, Bool, List, length, 
 use Rattle.std.proofs.lemmas.Bool.{cases_lt}
 use Rattle.store.specs.Meaning.{Shown}
 use Rattle.description.specs.Checks.{Checked, right}
-use Rattle.description.specs.declared.part.Part.{Part}
 use Rattle.description.specs.declared.fault.Fault.{Fault as Misdescription}
 use Rattle.making.specs.declared.fault.Fault.{Fault}
 use Rattle.making.specs.Loads.{load_list, advance_list}

@@ -3,7 +3,6 @@ use Rattle.std.proofs.Common.{◌≡◌, ℕ, suc, ◌≤◌, List, length, get_
 use Rattle.store.specs.Meaning.{Shown, free}
 use Rattle.description.specs.Checks.{Checked, right}
 use Rattle.description.specs.declared.part.Part.{Part}
-use Rattle.description.specs.declared.fault.Fault.{Fault as Misdescription}
 use Rattle.making.specs.declared.fault.Fault.TheVariants as fault
 use Rattle.making.specs.Making.{Item, Stops}
 use Rattle.making.specs.Loads.{load_list, advance_list}
@@ -16,9 +15,8 @@ use Rattle.runs.specs.Verdicts.{Unsafe, Meaning}
 use Rattle.runs.specs.Models.{Model, system}
 use Rattle.runs.proofs.Verdicts.{verdicts}
 use Rattle.runs.proofs.Traces as runs
-use Rattle.uses.specs.declared.verdict.Verdict.TheVariants as verdict
 use Rattle.uses.specs.Calls.{State, empty, loaded, tell, told, Call, load, advance, trace, Stand, Event, event}
-use Rattle.uses.specs.Uses.{Step, load_wrong, load_full, advance_full, traces, Use, begun, went_on}
+use Rattle.uses.specs.Uses.{Step, load_full, advance_full, traces, Use, begun, went_on}
 use Rattle.uses.specs.Promise.{load_bound, advance_bound, ShortOf, Fair, Every, none, each, Meant, Says, Promised}
 use Rattle.uses.proofs.Told.{tell_safe, tell_open, tell_unsafe}
 use Rattle.uses.proofs.Texts.{read_operators}

@@ -1,4 +1,5 @@
 use Rattle.std.proofs.Common.{sym, ◌∙◌}
+use Rattle.making.specs.declared.fault.Fault.TheVariants.{Description}
 use Rattle.engine.specs.Keeping.{world}
 use Rattle.engine.proofs.Keepings.{is_there, not_there, handed_on}
 use Rattle.engine.proofs.Loads.{when_twice, when_wrong, when_full, when_done}
@@ -13,7 +14,7 @@ pub returns-in_err-described-clause-next : goal.returns-in_err-described-clause-
 returns-in_err-described-clause-next g c =
     let w = world g.S.Store.shows c.args.self.now in
     let e = not_there c.args.self.now.search (sym c.is_some.ensures ∙ c.if-is_some.false) in
-    rw (handed_on c.from_residual.result c.in_err-described.field-0.0 c.from_residual.ensures.1)
+    rw (handed_on c.from_residual.result (Description c.in_err-described.field-0.0) c.from_residual.ensures.1)
     (when_wrong _ _ _ w e _ c.figures-width.ensures.same c.figures-width.result c.figures-width.ensures.told c.in_err-described.field-0.0 c.in_err-described.ensures)
 
 pub returns-in_err-built-clause-next : goal.returns-in_err-built-clause-next
