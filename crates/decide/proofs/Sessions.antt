@@ -16,6 +16,7 @@ use Rattle.uses.specs.declared.verdict.Verdict.{Verdict}
 use Rattle.uses.specs.declared.verdict.Verdict.TheVariants as answer
 use Rattle.uses.specs.Calls.{State, empty, loaded, tell, told, Call, load, advance, ask, trace, inside, Stand, stand, Event, event, written}
 use Rattle.uses.specs.Uses.{room, Step, load_wrong, load_full, loads, advance_settled, advance_full, advances, asks, trace_verdict, trace_short, traces, inside_verdict, inside_state, insides, Use, went_on}
+use Rattle.uses.proofs.Told.{tell_safe, tell_open, tell_unsafe}
 use Rattle.uses.proofs.Uses.{closed, come}
 use Rattle.engine.specs.declared.search.Search.{Search}
 use Rattle.engine.specs.Keeping.{World, Sets, Keeps, Next}
@@ -104,15 +105,15 @@ module _ (s : Shown) (m : Model) (j : ℕ) where
       → suc j ≤ length x → suc j ≤ length y → MatchResult r (λ _. Handed x y x' y') (λ _. ⊥)
   handed_by w v c o n lx ly = handing (last_step (n c.past (loaded m j) c.led c.keeps).1) o lx ly
 
-  valid_of : {t : Shown} (x : Option Search) → MatchOption x ⊥ (Sets m j t) → Valid m
-  valid_of None k = absurd k
-  valid_of (Some x) k = k.valid
+  valid_of : (t : Shown) (x : Option Search) → MatchOption x ⊥ (Sets m j t) → Valid m
+  valid_of t None k = absurd k
+  valid_of t (Some x) k = k.valid
 
   -- a search of at most 8 registers settles within 256 advances
   pub settles_by : (w : World) → Come s m j w → verdict (system m) j ≡ open_yet → 256 ≤ j → ⊥
   settles_by w c o l =
       let few = ((verdicts (system m) (closed m) j (come c.led).0).openly o).few in
-      let bound : 2 ^ m.circuit.registers ≤ 2 ^ 8 = pow_mono (valid_of w.search c.keeps).circuit.few_registers in
+      let bound : 2 ^ m.circuit.registers ≤ 2 ^ 8 = pow_mono (valid_of w.store w.search c.keeps).circuit.few_registers in
       omega arith
 
 pub told_open : (m : Model) (j : ℕ) (v : Verdict) → v ≡ told (loaded m j) → v ≡ answer.Open → verdict (system m) j ≡ open_yet

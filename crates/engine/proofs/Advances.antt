@@ -1,160 +1,126 @@
 -- The call that makes the next set.
-use Rattle.std.proofs.Common.{◌≡◌, ℕ, suc, ◌+◌, ◌<◌, ◌≤◌, List, ◌∷◌, get_or, set, IsErrAnd, Ok, Err, Result, sym, refl, ap, ◌∙◌, subst, ⊎_elim, eq-or-lt_of_le, arith, pow_mono}
-use Rattle.std.proofs.lemmas.List.{get_or-set_same, get_or-set_other}
-use Rattle.std.proofs.lemmas.Result.{err_from_is_err_and}
+use Rattle.std.proofs.Common.{◌≡◌, ℕ, suc, ◌<◌, ◌≤◌, ◌+◌, ◌++◌, List, [], ◌∷◌, length, get_or, Some, Ok, Err, Result, sym, ap, ◌∙◌, subst, ⊎_elim, eq-or-lt_of_le, add-one, arith, pow_mono}
+use Rattle.std.proofs.Math.Seq.{get_or-append_seam}
+use Rattle.std.proofs.lemmas.List.{get_or_append_left, length-append}
 use Rattle.store.specs.Meaning.{Shown, Grown, Lawful}
 use Rattle.making.specs.declared.fault.Fault.{Fault}
 use Rattle.making.specs.declared.fault.Fault.TheVariants as fault
 use Rattle.making.specs.Ends.{Ends, made, stuck, located}
-use Rattle.making.specs.Loads.{Kept, advance_list}
+use Rattle.making.specs.Loads.{advance_list}
 use Rattle.making.specs.Making.{Means, Stops, here, later}
 use Rattle.making.proofs.Backs.{kept_all}
 use Rattle.making.proofs.Steps.{kept, runs_grown, stops_grown}
 use Rattle.runs.specs.Models.{Model, system}
-use Rattle.runs.specs.Search.{Verdict, unsafe, safe, open_yet}
+use Rattle.runs.specs.Search.{open_yet, Reached}
 use Rattle.runs.specs.Search as search
-use Rattle.runs.specs.Valuations.{claim_fn, next_fn, init_fn, set_fn}
+use Rattle.runs.specs.Valuations.{set_fn}
 use Rattle.runs.proofs.Models.{functions_exact}
 use Rattle.runs.proofs.Verdicts.{verdicts}
-use Rattle.uses.specs.declared.verdict.Verdict.{Verdict as Told}
 use Rattle.uses.specs.declared.verdict.Verdict.TheVariants as verdict
-use Rattle.uses.specs.Calls.{State, empty, loaded, tell, advance, stand, Event, event}
-use Rattle.uses.specs.Uses.{Use, went_on, advance_empty, advance_settled, advance_full, advances}
+use Rattle.uses.specs.Calls.{loaded, tell, advance, stand}
+use Rattle.uses.specs.Uses.{Step, advance_settled, advance_full, advances}
+use Rattle.uses.proofs.Told.{tell_open}
+use Rattle.arrayvec.specs.ArrayVec.{array_vec_len}
 use Rattle.engine.specs.declared.found.Found.{Found}
-use Rattle.engine.specs.declared.inner.Inner.{Inner}
-use Rattle.engine.specs.Advancing.{Ready, Reaches, Advances}
-use Rattle.engine.specs.Keeping.{World, Sets, Keeps}
-use Rattle.engine.proofs.Keepings.{never, tell_empty}
-use Rattle.engine.proofs.Reaching.{reached}
-
-tell_open : (x : Verdict) → tell x ≡ verdict.Open → x ≡ open_yet
-tell_open (unsafe d) e = never (cc)
-tell_open safe e = never (cc)
-tell_open open_yet e = refl
+use Rattle.engine.specs.declared.search.Search.{Search}
+use Rattle.engine.specs.Advancing.{Reaches, Advances}
+use Rattle.engine.specs.Keeping.{World, searching, Sets, Next}
+use Rattle.engine.proofs.Keepings.{Leads_on, from_some, stays_some}
 
 -- a list that was refused ended at a lawful store
 stops_lawful : {s t : Shown} {l : List _} {x : _} → Stops s l x t → Lawful t
 stops_lawful (here w q) = w
 stops_lawful (later a w m q) = stops_lawful q
 
--- the use goes on by an advance with the answer r, to v
-abbrev pub Onward : List Event → State → World → Result Told Fault → World → Type 0
-Onward h st w r v = (st' : State) × Use (event (stand st w.store) (advance r) (stand st' v.store) ∷ h) (stand st' v.store) × Keeps st' v
-
--- the session with another store
-abbrev pub over : World → Shown → World
-over w t = record { store = t; inner = w.inner }
-
-sets_kept : (m : Model) (j : ℕ) (w : World) (t : Shown) → Grown w.store t → Lawful t → Sets m j w → Sets m j (over w t)
-sets_kept m j w t g l k = record {
-  valid = k.valid;
+sets_kept : (m : Model) (j : ℕ) (s t : Shown) (k : Search) → Grown s t → Lawful t → Sets m j s k → Sets m j t k
+sets_kept m j s t k g l h = record {
+  valid = h.valid;
   lawful = l;
-  registers = k.registers;
-  inputs = k.inputs;
-  count = k.count;
-  verdict = k.verdict;
-  parts = kept_all g k.parts;
-  property = kept g k.property;
-  init = kept g k.init;
-  sets = λ i h. kept g (k.sets i h);
+  registers = h.registers;
+  inputs = h.inputs;
+  count = h.count;
+  verdict = h.verdict;
+  parts = kept_all g h.parts;
+  property = kept g h.property;
+  init = kept g h.init;
+  earlier = λ i b. kept g (h.earlier i b);
+  set = kept g h.set;
 }
 
--- what a refused `?` hands on
-pub given_back : (r : Result Told Fault) (e : Fault) (h : List Event) (st : State) (w v : World) → IsErrAnd r (λ y. y ≡ e) → Onward h st w (Err e) v → Onward h st w r v
-given_back r e h st w v b q =
-    let p = err_from_is_err_and r b in
-    subst (λ i. Onward h st w i v) (sym p.1) (subst (λ y. Onward h st w (Err y) v) (sym p.2) q)
+module _ (w : World) (k : Search) (e : w.search ≡ Some k) where
+  -- the verdict is not open, or the advances are as many as can be
+  pub when_settled : (k.verdict ≡ verdict.Open → ⊥) → Next w (advance (Err fault.Settled)) w
+  when_settled o = stays_some w _ k e (λ m j r h. advance_settled (λ v. o (h.verdict ∙ ap tell v)))
 
-module _ (h : List Event) where
-  pub when_empty : (st : State) (w : World) → Use h (stand st w.store) → Keeps st w → w.inner.verdict ≡ verdict.Empty → Onward h st w (Err fault.Empty) w
-  when_empty empty w u k e = (empty, went_on u advance_empty, k)
-  when_empty (loaded m j) w u k e = absurd (tell_empty (search.verdict (system m) j) (sym k.verdict ∙ e))
+  pub when_many : 256 ≤ array_vec_len k.earlier → Next w (advance (Err fault.Settled)) w
+  when_many l = stays_some w _ k e (λ m j r h. advance_settled (λ v.
+      let f = ((verdicts (system m) (functions_exact m h.valid).stepped.closed j r).openly v).few in
+      let p = pow_mono {i = m.circuit.registers} {j = 8} h.valid.circuit.few_registers in
+      omega (arith, f, p, l, h.count)))
 
-  pub when_settled : (st : State) (w : World) → Use h (stand st w.store) → Keeps st w → (w.inner.verdict ≡ verdict.Empty → ⊥) → (w.inner.verdict ≡ verdict.Open → ⊥)
-      → Onward h st w (Err fault.Settled) w
-  when_settled empty w u k e o = absurd (e k)
-  when_settled (loaded m j) w u k e o = (loaded m j, went_on u (advance_settled (λ v. o (k.verdict ∙ ap tell v))), k)
+  module _ (o : k.verdict ≡ verdict.Open) (t : Shown) where
+    open_here : (m : Model) (j : ℕ) → Sets m j w.store k → search.verdict (system m) j ≡ open_yet
+    open_here m j h = tell_open (search.verdict (system m) j) (sym h.verdict ∙ o)
 
-  -- the verdict is not open after 256 advances
-  pub when_many : (st : State) (w : World) → Use h (stand st w.store) → Keeps st w → w.inner.verdict ≡ verdict.Open → 256 ≤ w.inner.count → ⊥
-  when_many empty w u k o l = never (cc)
-  when_many (loaded m j) w u k o l =
-      let f = ((verdicts (system m) (functions_exact m k.valid).stepped.closed j (reached u)).openly (tell_open (search.verdict (system m) j) (sym k.verdict ∙ o))).few in
-      let p = pow_mono {i = m.circuit.registers} {j = 8} k.valid.circuit.few_registers in
-      omega (arith, f, p, l, k.count)
+    -- what the code did
+    ran : (m : Model) (j : ℕ) → Reached (system m) j → Sets m j w.store k → (r : Result Found Fault) → Advances w.store k r t → Ends located w.store t (advance_list m j) (Reaches t m j) r
+    ran m j r h x f = f m j (record {
+      valid = h.valid;
+      registers = h.registers;
+      inputs = h.inputs;
+      parts = h.parts;
+      init = h.init;
+      count = h.count;
+      set = h.set;
+      reached = r;
+      undecided = open_here m j h;
+    })
 
-  ready_at : (m : Model) (j : ℕ) (w : World) → Use h (stand (loaded m j) w.store) → Sets m j w → w.inner.verdict ≡ verdict.Open
-      → Ready w.store m j (get_or w.inner.sets j 0) w.inner.parts
-  ready_at m j w u k o = record {
-    valid = k.valid;
-    registers = k.registers;
-    inputs = k.inputs;
-    parts = k.parts;
-    init = k.init;
-    set = k.sets j (omega arith);
-    reached = reached u;
-    undecided = tell_open (search.verdict (system m) j) (sym k.verdict ∙ o);
-  }
+    pub when_full : (x : Fault) → Advances w.store k (Err x) t → Next w (advance (Err x)) (searching t k)
+    when_full x f = from_some w _ k e _ (λ m j r h. by m j h (ran m j r h (Err x) f))
+      where
+        by : (m : Model) (j : ℕ) → Sets m j w.store k → Ends located w.store t (advance_list m j) (Reaches t m j) (Err x)
+            → Leads_on w (advance (Err x)) (loaded m j) (searching t k)
+        by m j h (stuck y q z) = (
+          loaded m j,
+          subst (λ i. Step (stand (loaded m j) w.store) (advance (Err i)) (stand (loaded m j) t)) (sym z) (advance_full (open_here m j h) q),
+          sets_kept m j w.store t k (stops_grown q) (stops_lawful q) h,
+        )
 
-  -- what the code did, at the model and the count that the use knows
-  module _ (m : Model) (j : ℕ) (w : World) (t : Shown) (u : Use h (stand (loaded m j) w.store)) (k : Sets m j w) (o : w.inner.verdict ≡ verdict.Open)
-      (r : Result Found Fault) (f : Advances w.store (get_or w.inner.sets w.inner.count 0) w.inner.parts w.inner.count r t) where
-    ran : Ends located w.store t (advance_list m j) (Reaches t m j) r
-    ran = subst (λ i. Advances w.store (get_or w.inner.sets i 0) w.inner.parts i r t) k.count f m (ready_at m j w u k o)
+    pub when_done : (x : Found) (k' : Search) → k'.parts ≡ k.parts → k'.earlier.items ≡ k.earlier.items ++ k.set ∷ [] → k'.set ≡ x.set → k'.verdict ≡ x.verdict
+        → Advances w.store k (Ok x) t → Next w (advance (Ok x.verdict)) (searching t k')
+    when_done x k' ep ee es ev f = from_some w _ k e _ (λ m j r h. by m j h (ran m j r h (Ok x) f))
+      where
+        by : (m : Model) (j : ℕ) → Sets m j w.store k → Ends located w.store t (advance_list m j) (Reaches t m j) (Ok x)
+            → Leads_on w (advance (Ok x.verdict)) (loaded m j) (searching t k')
+        by m j h (made r q) = (
+          loaded m (suc j),
+          subst (λ a. Step (stand (loaded m j) w.store) (advance (Ok a)) (stand (loaded m (suc j)) t)) (sym q.verdict) (advances (open_here m j h) r),
+          record {
+            valid = h.valid;
+            lawful = q.lawful;
+            registers = ap (λ p. p.n) ep ∙ h.registers;
+            inputs = ap (λ p. p.m) ep ∙ h.inputs;
+            count = ap length ee ∙ length-append k.earlier.items (k.set ∷ []) ∙ ap (λ n. n + 1) h.count ∙ add-one j;
+            verdict = ev ∙ q.verdict;
+            parts = rw ep (kept_all g h.parts);
+            property = rw ep (kept g h.property);
+            init = rw ep (kept g h.init);
+            earlier = λ i b. subst (λ n. Means t n (set_fn m i)) (sym (ap (λ l. get_or l i 0) ee)) (⊎_elim (at_end i) (before i) (eq-or-lt_of_le (down i b)));
+            set = rw es q.set;
+          },
+        )
+          where
+            g : Grown w.store t
+            g = runs_grown r
 
-  pub when_full : (st : State) (w : World) (t : Shown) (e : Fault) → Use h (stand st w.store) → Keeps st w → w.inner.verdict ≡ verdict.Open
-      → Advances w.store (get_or w.inner.sets w.inner.count 0) w.inner.parts w.inner.count (Err e) t → Onward h st w (Err e) (over w t)
-  when_full empty w t e u k o f = never (cc)
-  when_full (loaded m j) w t e u k o f = by (ran m j w t u k o (Err e) f)
-    where
-      by : Ends located w.store t (advance_list m j) (Reaches t m j) (Err e) → Onward h (loaded m j) w (Err e) (over w t)
-      by (stuck y q x) = (
-        loaded m j,
-        subst (λ i. Use (event (stand (loaded m j) w.store) (advance (Err i)) (stand (loaded m j) t) ∷ h) (stand (loaded m j) t)) (sym x)
-            (went_on u (advance_full (tell_open (search.verdict (system m) j) (sym k.verdict ∙ o)) q)),
-        sets_kept m j w t (stops_grown q) (stops_lawful q) k,
-      )
+            down : (i : ℕ) → i < suc j → i ≤ j
+            down i b = omega arith
 
-  pub when_done : (st : State) (w : World) (t : Shown) (x : Found) (i' : Inner) → Use h (stand st w.store) → Keeps st w → w.inner.verdict ≡ verdict.Open → w.inner.count < 256
-      → i'.parts ≡ w.inner.parts → i'.sets ≡ set w.inner.sets (w.inner.count + 1) x.set → i'.count ≡ w.inner.count + 1 → i'.verdict ≡ x.verdict
-      → Advances w.store (get_or w.inner.sets w.inner.count 0) w.inner.parts w.inner.count (Ok x) t
-      → Onward h st w (Ok x.verdict) (record { store = t; inner = i' })
-  when_done empty w t x i' u k o l ep es ec ev f = never (cc)
-  when_done (loaded m j) w t x i' u k o l ep es ec ev f = by (ran m j w t u k o (Ok x) f)
-    where
-      top : w.inner.count + 1 ≡ suc j
-      top = omega (arith, k.count)
+            at_end : (i : ℕ) → i ≡ j → Means t (get_or (k.earlier.items ++ k.set ∷ []) i 0) (set_fn m i)
+            at_end i p =
+                subst (λ n. Means t (get_or (k.earlier.items ++ k.set ∷ []) n 0) (set_fn m n)) (sym p)
+                (subst (λ n. Means t n (set_fn m j)) (sym (ap (λ n. get_or (k.earlier.items ++ k.set ∷ []) n 0) (sym h.count) ∙ get_or-append_seam k.earlier.items k.set [] 0)) (kept g h.set))
 
-      more : Grown w.store t → Means t x.set (set_fn m (suc j)) → (i : ℕ) → i ≤ suc j → Means t (get_or i'.sets i 0) (set_fn m i)
-      more g q i b =
-          subst (λ ns. Means t (get_or ns i 0) (set_fn m i)) (sym (es ∙ ap (λ a. set w.inner.sets a x.set) top))
-          (⊎_elim
-          (λ e. subst (λ a. Means t (get_or (set w.inner.sets (suc j) x.set) a 0) (set_fn m a)) (sym e)
-          (subst (λ a. Means t a (set_fn m (suc j))) (sym (get_or-set_same w.inner.sets (suc j) x.set 0 (omega (arith, w.inner.wide, l, k.count)))) q))
-          (λ e. subst (λ a. Means t a (set_fn m i)) (sym (get_or-set_other w.inner.sets (suc j) i x.set 0 (apart e))) (kept g (k.sets i (down e))))
-          (eq-or-lt_of_le b))
-        where
-          down : i < suc j → i ≤ j
-          down e = omega arith
-
-          apart : i < suc j → i ≡ suc j → ⊥
-          apart e a = omega arith
-
-      by : Ends located w.store t (advance_list m j) (Reaches t m j) (Ok x) → Onward h (loaded m j) w (Ok x.verdict) (record { store = t; inner = i' })
-      by (made r q) = (
-        loaded m (suc j),
-        subst (λ a. Use (event (stand (loaded m j) w.store) (advance (Ok a)) (stand (loaded m (suc j)) t) ∷ h) (stand (loaded m (suc j)) t)) (sym q.verdict)
-            (went_on u (advances (tell_open (search.verdict (system m) j) (sym k.verdict ∙ o)) r)),
-        record {
-          valid = k.valid;
-          lawful = q.lawful;
-          registers = ap (λ p. p.n) ep ∙ k.registers;
-          inputs = ap (λ p. p.m) ep ∙ k.inputs;
-          count = ec ∙ top;
-          verdict = ev ∙ q.verdict;
-          parts = subst (λ p. Kept t p (next_fn m) (claim_fn m m.assumption)) (sym ep) (kept_all (runs_grown r) k.parts);
-          property = subst (λ p. Means t p.property (claim_fn m m.property)) (sym ep) (kept (runs_grown r) k.property);
-          init = subst (λ p. Means t p.init (init_fn m)) (sym ep) (kept (runs_grown r) k.init);
-          sets = more (runs_grown r) q.set;
-        },
-      )
+            before : (i : ℕ) → i < j → Means t (get_or (k.earlier.items ++ k.set ∷ []) i 0) (set_fn m i)
+            before i b = subst (λ n. Means t n (set_fn m i)) (sym (get_or_append_left k.earlier.items (k.set ∷ []) 0 i (subst (λ n. i < n) (sym h.count) b))) (kept g (h.earlier i b))

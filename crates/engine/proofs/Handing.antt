@@ -1,24 +1,22 @@
 -- The trace that is handed out.
-use Rattle.std.proofs.Common.{◌≡◌, ℕ, suc, ◌+◌, ◌≤◌, Bool, true, false, cond, List, ◌∷◌, length, get_or, Ok, Err, Result, sym, refl, ap, ◌∙◌, subst, add-one}
+use Rattle.std.proofs.Common.{◌≡◌, ℕ, suc, ◌+◌, ◌≤◌, Bool, true, false, cond, List, ◌++◌, drop, length, get_or, Some, Ok, Err, Result, sym, refl, ap, ◌∙◌, subst, add-one}
 use Rattle.making.specs.declared.fault.Fault.{Fault}
 use Rattle.making.specs.declared.fault.Fault.TheVariants as fault
 use Rattle.runs.specs.Models.{Model, system}
-use Rattle.runs.specs.Search.{Verdict, unsafe, safe, open_yet, bad, meets_init, stable, verdict_by}
+use Rattle.runs.specs.Search.{unsafe, safe, open_yet, bad, meets_init, stable, verdict_by}
 use Rattle.runs.specs.Search as search
 use Rattle.runs.specs.Systems.{System}
 use Rattle.uses.specs.declared.verdict.Verdict.TheVariants as verdict
-use Rattle.uses.specs.Calls.{State, empty, loaded, tell, trace, stand, Event, event, written}
-use Rattle.uses.specs.Uses.{Use, went_on, trace_empty, trace_verdict, trace_short, traces}
+use Rattle.uses.specs.Calls.{loaded, tell, trace, stand, written}
+use Rattle.uses.specs.Uses.{Step, trace_verdict, trace_short, traces}
+use Rattle.uses.proofs.Told.{never, tell_unsafe}
+use Rattle.uses.proofs.Written.{written_of}
+use Rattle.arrayvec.specs.ArrayVec.{array_vec_len}
 use Rattle.engine.specs.declared.path.Path.{Path}
-use Rattle.engine.specs.Keeping.{World, Sets, Keeps}
-use Rattle.engine.specs.Questions.{TracedBy, Walks}
-use Rattle.engine.proofs.Keepings.{never, tell_empty}
-use Rattle.engine.proofs.Reaching.{reached}
-
-tell_unsafe : (x : Verdict) (d : ℕ) → tell x ≡ verdict.Unsafe d → x ≡ unsafe d
-tell_unsafe (unsafe i) d e = cc
-tell_unsafe safe d e = never (cc)
-tell_unsafe open_yet d e = never (cc)
+use Rattle.engine.specs.declared.search.Search.{Search}
+use Rattle.engine.specs.Keeping.{World, Sets, Next}
+use Rattle.engine.specs.Questions.{Covers, TracedBy, Walks}
+use Rattle.engine.proofs.Keepings.{stays_some}
 
 -- the depth is the number of advances
 depth_is : (s : System) (j d : ℕ) → search.verdict s j ≡ unsafe d → search.verdict s j ≡ unsafe j
@@ -30,55 +28,33 @@ depth_is s j d = go (meets_init s (bad s j)) (stable s (bad s) j)
     go false true e = never (cc)
     go false false e = never (cc)
 
-kept_unsafe : (m : Model) (j d : ℕ) (w : World) → Sets m j w → w.inner.verdict ≡ verdict.Unsafe d → search.verdict (system m) j ≡ unsafe j
-kept_unsafe m j d w k e = depth_is (system m) j d (tell_unsafe (search.verdict (system m) j) d (sym k.verdict ∙ e))
+module _ (w : World) (k : Search) (e : w.search ≡ Some k) (x y : List ℕ) where
+  pub when_not_unsafe : ((d : ℕ) → k.verdict ≡ verdict.Unsafe d → ⊥) → Next w (trace x y x y (Err fault.Verdict)) w
+  when_not_unsafe o = stays_some w _ k e (λ m j r h. trace_verdict (λ v. o j (h.verdict ∙ ap tell v)))
 
-abbrev pub Handed : List Event → State → World → (x y x' y' : List ℕ) → Result (Unit {0}) Fault → World → Type 0
-Handed h st w x y x' y' r v = (st' : State) × Use (event (stand st w.store) (trace x y x' y' r) (stand st' v.store) ∷ h) (stand st' v.store) × Keeps st' v
+  module _ (d : ℕ) (o : k.verdict ≡ verdict.Unsafe d) where
+    unsafe_here : (m : Model) (j : ℕ) → Sets m j w.store k → search.verdict (system m) j ≡ unsafe j
+    unsafe_here m j h = depth_is (system m) j d (tell_unsafe (search.verdict (system m) j) d (sym h.verdict ∙ o))
 
-module _ (h : List Event) where
-  pub when_empty : (st : State) (w : World) (x y : List ℕ) → Use h (stand st w.store) → Keeps st w → w.inner.verdict ≡ verdict.Empty → Handed h st w x y x y (Err fault.Empty) w
-  when_empty empty w x y u k e = (empty, went_on u trace_empty, k)
-  when_empty (loaded m j) w x y u k e = absurd (tell_empty (search.verdict (system m) j) (sym k.verdict ∙ e))
+    entries : (m : Model) (j : ℕ) → Sets m j w.store k → array_vec_len k.earlier + 1 ≡ suc j
+    entries m j h = add-one (array_vec_len k.earlier) ∙ ap suc h.count
 
-  pub when_not_unsafe : (st : State) (w : World) (x y : List ℕ) → Use h (stand st w.store) → Keeps st w → (w.inner.verdict ≡ verdict.Empty → ⊥) → ((d : ℕ) → w.inner.verdict ≡ verdict.Unsafe d → ⊥)
-      → Handed h st w x y x y (Err fault.Verdict) w
-  when_not_unsafe empty w x y u k e o = absurd (e k)
-  when_not_unsafe (loaded m j) w x y u k e o = (loaded m j, went_on u (trace_verdict (λ v. o j (k.verdict ∙ ap tell v))), k)
+    pub when_short : (array_vec_len k.earlier + 1 ≤ length x → array_vec_len k.earlier + 1 ≤ length y → ⊥) → Next w (trace x y x y (Err (fault.Short (array_vec_len k.earlier + 1)))) w
+    when_short l = stays_some w _ k e (λ m j r h.
+        let z = stand (loaded m j) w.store in
+        subst (λ n. Step z (trace x y x y (Err (fault.Short n))) z) (sym (entries m j h))
+        (trace_short (unsafe_here m j h) (subst (λ n. n ≤ length x → n ≤ length y → ⊥) (entries m j h) l)))
 
-  pub when_short : (st : State) (w : World) (x y : List ℕ) (d : ℕ) → Use h (stand st w.store) → Keeps st w → w.inner.verdict ≡ verdict.Unsafe d
-      → (w.inner.count + 1 ≤ length x → w.inner.count + 1 ≤ length y → ⊥) → Handed h st w x y x y (Err (fault.Short (w.inner.count + 1))) w
-  when_short empty w x y d u k e l = never (cc)
-  when_short (loaded m j) w x y d u k e l =
-      let p : w.inner.count + 1 ≡ suc j = add-one w.inner.count ∙ ap suc k.count in
-      let z = stand (loaded m j) w.store in (
-        loaded m j,
-        subst (λ n. Use (event z (trace x y x y (Err (fault.Short n))) z ∷ h) z) (sym p)
-            (went_on u (trace_short (kept_unsafe m j d w k e) (subst (λ n. n ≤ length x → n ≤ length y → ⊥) p l))),
-        k,
-      )
+    module _ (r : Result Path Fault) (t : Walks w.store k r) where
+      pub when_walked : (p : Path) → r ≡ Ok p → Covers k p → array_vec_len k.earlier + 1 ≤ length x → array_vec_len k.earlier + 1 ≤ length y
+          → Next w (trace x y (p.states.items ++ drop (array_vec_len k.earlier + 1) x) (p.inputs.items ++ drop (array_vec_len k.earlier + 1) y) (Ok tt)) w
+      when_walked p q l lx ly = stays_some w _ k e (λ m j c h.
+          let z = stand (loaded m j) w.store in
+          let n = entries m j h in
+          subst (λ a. Step z (trace x y a (p.inputs.items ++ drop (array_vec_len k.earlier + 1) y) (Ok tt)) z) (written_of (suc j) p.states.items x (l.0 ∙ n) ∙ ap (λ i. p.states.items ++ drop i x) (sym n))
+          (subst (λ a. Step z (trace x y (written (suc j) (λ i. get_or p.states.items i 0) x) a (Ok tt)) z) (written_of (suc j) p.inputs.items y (l.1 ∙ n) ∙ ap (λ i. p.inputs.items ++ drop i y) (sym n))
+          (traces (λ i. get_or p.states.items i 0) (λ i. get_or p.inputs.items i 0) (unsafe_here m j h) (subst (λ i. i ≤ length x) n lx) (subst (λ i. i ≤ length y) n ly)
+          (subst (TracedBy m j) q (t m j h c (unsafe_here m j h))))))
 
-  -- what the walk came to
-  walked : (m : Model) (j : ℕ) (w : World) (d : ℕ) (r : Result Path Fault) → Use h (stand (loaded m j) w.store) → Sets m j w → w.inner.verdict ≡ verdict.Unsafe d
-      → Walks w.store w.inner r → TracedBy m j r
-  walked m j w d r u k e t = by w.inner.count k.count (t m)
-    where
-      by : (i : ℕ) → i ≡ j → (Sets m i w → search.Reached (system m) i → search.verdict (system m) i ≡ unsafe i → TracedBy m i r) → TracedBy m j r
-      by i p f = let g = subst (λ n. Sets m n w → search.Reached (system m) n → search.verdict (system m) n ≡ unsafe n → TracedBy m n r) p f in g k (reached u) (kept_unsafe m j d w k e)
-
-  pub when_walked : (st : State) (w : World) (x y : List ℕ) (d : ℕ) (p : Path) → Use h (stand st w.store) → Keeps st w → w.inner.verdict ≡ verdict.Unsafe d
-      → w.inner.count + 1 ≤ length x → w.inner.count + 1 ≤ length y → Walks w.store w.inner (Ok p)
-      → Handed h st w x y (written (w.inner.count + 1) (λ t. get_or p.states t 0) x) (written (w.inner.count + 1) (λ t. get_or p.inputs t 0) y) (Ok tt) w
-  when_walked empty w x y d p u k e lx ly t = never (cc)
-  when_walked (loaded m j) w x y d p u k e lx ly t =
-      let n : w.inner.count + 1 ≡ suc j = add-one w.inner.count ∙ ap suc k.count in
-      let z = stand (loaded m j) w.store in (
-        loaded m j,
-        subst (λ i. Use (event z (trace x y (written i (λ t. get_or p.states t 0) x) (written i (λ t. get_or p.inputs t 0) y) (Ok tt)) z ∷ h) z) (sym n)
-            (went_on u (traces (λ t. get_or p.states t 0) (λ t. get_or p.inputs t 0) (kept_unsafe m j d w k e) (subst (λ i. i ≤ length x) n lx) (subst (λ i. i ≤ length y) n ly) (walked m j w d (Ok p) u k e t))),
-        k,
-      )
-
-  pub when_lost : (st : State) (w : World) (d : ℕ) (f : Fault) → Use h (stand st w.store) → Keeps st w → w.inner.verdict ≡ verdict.Unsafe d → Walks w.store w.inner (Err f) → ⊥
-  when_lost empty w d f u k e t = never (cc)
-  when_lost (loaded m j) w d f u k e t = walked m j w d (Err f) u k e t
+      pub when_lost : (f : Fault) → r ≡ Err f → (x' y' : List ℕ) (a : Result (Unit {0}) Fault) → Next w (trace x y x' y' a) w
+      when_lost f q x' y' a = stays_some w _ k e (λ m j c h. absurd (subst (TracedBy m j) q (t m j h c (unsafe_here m j h))))

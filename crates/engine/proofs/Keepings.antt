@@ -1,28 +1,64 @@
--- What the session's numbers say.
-use Rattle.std.proofs.Common.{◌≡◌, ℕ, arith}
-use Rattle.runs.specs.Models.{Model}
-use Rattle.runs.specs.Search.{Verdict, unsafe, safe, open_yet}
+-- From what one call did to any use that it is a call of.
+use Rattle.std.proofs.Common.{◌≡◌, ℕ, true, false, Option, Some, None, MatchOption, IsErrAnd, Err, Result, ◌∷◌, refl, ap, ◌∙◌, sym, subst}
+use Rattle.std.specs.Option.{is_some}
+use Rattle.std.proofs.lemmas.Result.{err_from_is_err_and}
+use Rattle.store.specs.Meaning.{Shown}
+use Rattle.making.specs.declared.fault.Fault.{Fault}
+use Rattle.runs.specs.Models.{Model, system}
+use Rattle.runs.specs.Search.{Reached}
+use Rattle.uses.specs.declared.verdict.Verdict.{Verdict}
 use Rattle.uses.specs.declared.verdict.Verdict.TheVariants as verdict
-use Rattle.uses.specs.Calls.{State, empty, loaded, tell, told}
-use Rattle.engine.specs.Keeping.{World, Sets, Keeps}
+use Rattle.uses.specs.Calls.{State, empty, loaded, told, Call, ask, stand, event}
+use Rattle.uses.specs.Uses.{Step, Use, went_on, asks}
+use Rattle.uses.proofs.Told.{never}
+use Rattle.uses.proofs.Uses.{come}
+use Rattle.engine.specs.declared.search.Search.{Search}
+use Rattle.engine.specs.Keeping.{World, Sets, Keeps, Next}
 use Rattle.engine.specs.Questions.{Readable}
 
-pub verdict_told : (st : State) (w : World) → Keeps st w → w.inner.verdict ≡ told st
-verdict_told empty w k = k
-verdict_told (loaded m j) w k = k.verdict
+pub readable : (m : Model) (j : ℕ) (s : Shown) (k : Search) → Sets m j s k → Readable s m k.parts
+readable m j s k h = record { valid = h.valid; registers = h.registers; inputs = h.inputs; parts = h.parts; property = h.property; init = h.init }
 
-pub never : {X : Type 0} → ◌≡◌ {A = ℕ} 0 1 → X
-never e = absurd (omega arith)
+module _ (w : World) (c : Call) where
+  -- the call leads on from w to v
+  abbrev pub Leads_on : State → World → Type 0
+  Leads_on st v = (st' : State) × Step (stand st w.store) c (stand st' v.store) × Keeps st' v
 
-pub tell_empty : (x : Verdict) → tell x ≡ verdict.Empty → ⊥
-tell_empty (unsafe d) e = never (cc)
-tell_empty safe e = never (cc)
-tell_empty open_yet e = never (cc)
+  pub from_none : (v : World) → w.search ≡ None → Leads_on empty v → Next w c v
+  from_none v e p h empty u k = (p.0, went_on u p.1, p.2)
+  from_none v e p h (loaded m j) u k = absurd (subst (λ o. MatchOption o ⊥ (Sets m j w.store)) e k)
 
-pub tell_safe : (x : Verdict) → tell x ≡ verdict.Safe → x ≡ safe
-tell_safe (unsafe d) e = never (cc)
-tell_safe safe e = cc
-tell_safe open_yet e = never (cc)
+  pub stays_none : w.search ≡ None → Step (stand empty w.store) c (stand empty w.store) → Next w c w
+  stays_none e p = from_none w e (empty, p, e)
 
-pub readable : (m : Model) (j : ℕ) (w : World) → Sets m j w → Readable w.store m w.inner.parts
-readable m j w k = record { valid = k.valid; registers = k.registers; inputs = k.inputs; parts = k.parts; property = k.property; init = k.init }
+  module _ (k : Search) (e : w.search ≡ Some k) where
+    pub from_some : (v : World) → ((m : Model) (j : ℕ) → Reached (system m) j → Sets m j w.store k → Leads_on (loaded m j) v) → Next w c v
+    from_some v p h empty u x = never (cc)
+    from_some v p h (loaded m j) u x = let q = p m j (come u).0 (subst (λ o. MatchOption o ⊥ (Sets m j w.store)) e x) in (q.0, went_on u q.1, q.2)
+
+    pub stays_some : ((m : Model) (j : ℕ) → Reached (system m) j → Sets m j w.store k → Step (stand (loaded m j) w.store) c (stand (loaded m j) w.store)) → Next w c w
+    stays_some p = from_some w (λ m j r x. (loaded m j, p m j r x, subst (λ o. MatchOption o ⊥ (Sets m j w.store)) (sym e) x))
+
+-- what a refused `?` hands on
+pub handed_on : {X : Type 0} (r : Result X Fault) (e : Fault) → IsErrAnd r (λ y. y ≡ e) → r ≡ Err e
+handed_on r e b = let p = err_from_is_err_and r b in p.1 ∙ ap Err p.2
+
+pub is_there : {X : Type 0} (o : Option X) → is_some o ≡ true → (x : X) × (o ≡ Some x)
+is_there None e = never (cc)
+is_there (Some x) e = (x, refl)
+
+pub not_there : {X : Type 0} (o : Option X) → is_some o ≡ false → o ≡ None
+not_there None e = refl
+not_there (Some x) e = never (cc)
+
+-- what the verdict call answers
+pub told_none : (st : State) (w : World) → w.search ≡ None → Keeps st w → verdict.Empty ≡ told st
+told_none empty w e k = refl
+told_none (loaded m j) w e k = absurd (subst (λ o. MatchOption o ⊥ (Sets m j w.store)) e k)
+
+pub told_some : (st : State) (w : World) (k : Search) → w.search ≡ Some k → Keeps st w → k.verdict ≡ told st
+told_some empty w k e n = never (cc)
+told_some (loaded m j) w k e h = (subst (λ o. MatchOption o ⊥ (Sets m j w.store)) e h).verdict
+
+pub asked : (w : World) (r : Verdict) → ((st : State) → Keeps st w → r ≡ told st) → Next w (ask r) w
+asked w r f h st u k = let x = stand st w.store in (st, subst (λ a. Use (event x (ask a) x ∷ h) x) (sym (f st k)) (went_on u asks), k)

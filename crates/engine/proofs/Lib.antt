@@ -1,12 +1,11 @@
 pub mod Spreads
 mod Keepings
+mod Backwards
 mod Readings
 mod Insides
 mod Bits
 mod Searches
-mod Writings
 mod Tracings
-mod Reaching
 mod Walking
 mod Handing
 mod Meeting

@@ -6,17 +6,16 @@ use Rattle.store.specs.Meaning.{Shown}
 use Rattle.store.specs.Calls.{TellsValue}
 use Rattle.making.specs.declared.fault.Fault.{Fault}
 use Rattle.making.specs.declared.parts.Parts.{Parts}
-use Rattle.making.specs.Making.{Means}
+use Rattle.making.specs.Making.{Means, unpaired}
 use Rattle.runs.specs.Functions.{spread}
 use Rattle.runs.specs.Valuations.{set_fn}
-use Rattle.runs.specs.Models.{Model, system}
-use Rattle.runs.specs.Numbers.{bits, number}
+use Rattle.runs.specs.Models.{Model, system, Valid}
 use Rattle.runs.specs.Search.{bad}
-use Rattle.runs.specs.Systems.{State, Input}
+use Rattle.runs.specs.Systems.{State, Input, Closed}
 use Rattle.runs.proofs.Models.{functions_exact}
-use Rattle.runs.proofs.Numbers.{number_bits, spreads}
+use Rattle.runs.proofs.Numbers.{spreads}
 use Rattle.engine.specs.Questions.{Readable, Tells, GoesTo}
-use Rattle.engine.proofs.Keepings.{never}
+use Rattle.uses.proofs.Told.{never}
 
 -- the store shows the same
 pub told_still : (s t : Shown) (n a q v : ℕ) (r : Result Bool Fault) → s ≡ t → Tells s n a q v r → Tells t n a q v r
@@ -34,26 +33,23 @@ negated {a} {x} p = let e : a ≡ x = cc in ap (λ y. Ok (not y)) e
 
 -- two tests in a row
 module _ (a x y : Bool) (p : ◌≡◌ {A = Result Bool Fault} (Ok a) (Ok x)) where
-  pub first_fails : a ≡ false → ◌≡◌ {A = Result Bool Fault} (Ok false) (Ok (x && y))
-  first_fails e = let h : false ≡ x = cc in ap (λ z. Ok (z && y)) h
+  pub first_fails : a ≡ false → ◌≡◌ {A = Result Bool Fault} (Ok a) (Ok (x && y))
+  first_fails e = let h : false ≡ x = cc in ap Ok e ∙ ap (λ z. Ok (z && y)) h
 
   pub second_tells : (r : Result Bool Fault) → a ≡ true → r ≡ Ok y → r ≡ Ok (x && y)
   second_tells r e q = let h : true ≡ x = cc in q ∙ ap (λ z. Ok (z && y)) h
 
 -- what a value question says of a function at the valuation of a state and an input
 module _ (s : Shown) (n m a q v w : ℕ) (f : Fn) (at : w ≡ spread n q v) (e : Means s a f) (wide : 2 * n + m ≤ s.vars) (lq : q < 2 ^ n) (lv : v < 2 ^ m) where
-  answered : (r : Result Bool Refusal) → TellsValue s a w r → r ≡ Ok (f (spread n q v))
+  pub answered : (r : Result Bool Refusal) → TellsValue s a w r → r ≡ Ok (f (spread n q v))
   answered r t =
       let b = (spreads n m q v lq lv).below in
       let p = pow_mono {i = 2 * n + m} {j = s.vars} wide in
       let h : w < 2 ^ s.vars = omega arith in
       t.value e.held h ∙ ap Ok (e.same w h ∙ ap f at)
 
-  pub answer_is : (b : Bool) → TellsValue s a w (Ok b) → b ≡ f (spread n q v)
-  answer_is b t = let h = answered (Ok b) t in cc
-
-  pub not_refused : (x : Refusal) → TellsValue s a w (Err x) → ⊥
-  not_refused x t = let h = answered (Err x) t in never (cc)
+pub closed : (m : Model) → Valid m → Closed (system m)
+closed m v = (functions_exact m v).stepped.closed
 
 module _ (s : Shown) (m : Model) (k : Parts) (h : Readable s m k) where
   at_spread : (a : ℕ) (f : Fn) (q v : ℕ) (r : Result Bool Fault) → Means s a f → State (system m) q → Input (system m) v → Tells s k.n a q v r
@@ -74,11 +70,11 @@ module _ (s : Shown) (m : Model) (k : Parts) (h : Readable s m k) where
       at_spread k.property _ q v r h.property lq lv t
       ∙ ap Ok ((functions_exact m h.valid).stepped.stands.claims (spread m.circuit.registers q v) ∙ ap₂ (system m).property p.state p.input)
 
-  pub next_is : (i q v : ℕ) (r : Result Bool Fault) → i < k.n → State (system m) q → Input (system m) v → Tells s k.n (get_or k.nexts i 0) q v r
+  pub next_is : (i a q v : ℕ) (r : Result Bool Fault) → i < k.n → a ≡ (get_or k.nexts.items i unpaired).function → State (system m) q → Input (system m) v → Tells s k.n a q v r
       → r ≡ Ok (bit i ((system m).next q v))
-  next_is i q v r l lq lv t =
+  next_is i a q v r l e lq lv t =
       let p = spreads m.circuit.registers m.circuit.inputs q v lq lv in
-      at_spread (get_or k.nexts i 0) _ q v r (h.parts.nexts i l) lq lv t
+      at_spread (get_or k.nexts.items i unpaired).function _ q v r (h.parts.nexts i l).function lq lv (subst (λ x. Tells s k.n x q v r) e t)
       ∙ ap Ok ((functions_exact m h.valid).stepped.stands.nexts i (subst (λ n. i < n) h.registers l) (spread m.circuit.registers q v)
       ∙ ap₂ (λ x y. bit i ((system m).next x y)) p.state p.input)
 
@@ -100,8 +96,4 @@ module _ (s : Shown) (m : Model) (k : Parts) (h : Readable s m k) where
       → ◌≡◌ {A = Result ℕ Fault} (Ok next) (Ok ((system m).next q v)) → Tells s k.n a next 0 r → r ≡ Ok (bad (system m) i ((system m).next q v))
   after_is i a q v next r e lq lv p t =
       let x : next ≡ (system m).next q v = cc in
-      set_is i a ((system m).next q v) r e ((functions_exact m h.valid).stepped.closed q v lq lv) (subst (λ y. Tells s k.n a y 0 r) x t)
-
-  pub whole : (q v next : ℕ) → State (system m) q → Input (system m) v → next ≡ number k.n (bits ((system m).next q v)) → ◌≡◌ {A = Result ℕ Fault} (Ok next) (Ok ((system m).next q v))
-  whole q v next lq lv e =
-      ap Ok (e ∙ ap (λ n. number n (bits ((system m).next q v))) h.registers ∙ number_bits m.circuit.registers ((system m).next q v) ((functions_exact m h.valid).stepped.closed q v lq lv))
+      set_is i a ((system m).next q v) r e (closed m h.valid q v lq lv) (subst (λ y. Tells s k.n a y 0 r) x t)

@@ -1,5 +1,7 @@
--- The trace, as it is written into arrays step by step.
-use Rattle.std.proofs.Common.{◌≡◌, ℕ, zero, suc, ◌+◌, ◌-◌, ◌^◌, ◌<◌, ◌≤◌, ◌≢◌, List, length, get_or, set, sym, refl, ap, ◌∙◌, subst, ⊎_elim, eq-or-lt_of_le, add-one, arith, get_or-set_other, get_or-set_same}
+-- The trace, as it grows step by step.
+use Rattle.std.proofs.Common.{◌≡◌, ℕ, zero, suc, ◌-◌, ◌^◌, ◌<◌, ◌≤◌, List, [], ◌∷◌, ◌++◌, length, get_or, sym, refl, ap, ap₂, ◌∙◌, subst, ⊎_elim, eq-or-lt_of_le, arith}
+use Rattle.std.proofs.Math.Seq.{get_or-append_seam}
+use Rattle.std.proofs.lemmas.List.{get_or_append_left}
 use Rattle.runs.specs.Search.{faulty, leads_into, bad, initial_in, Least, TraceTo, Trace}
 use Rattle.runs.specs.Systems.{System, State, Closed}
 
@@ -32,46 +34,36 @@ module _ (s : System) (d : ℕ) where
   traced_state closed t q v l zero h = l.start.below
   traced_state closed t q v l (suc i) h = rw (l.moves i h) (closed (q i) (v i) (traced_state closed t q v l i (omega arith)) (l.inputs i h).below)
 
-  module _ (xs ys : List ℕ) where
-    pub starts : (q : ℕ) → 0 < length xs → Least (2 ^ s.registers) (initial_in s (bad s d)) q → TraceTo s d 0 (at (set xs 0 q)) (at ys)
-    starts q l a = record {
-      start = subst (Least (2 ^ s.registers) (initial_in s (bad s d))) (sym (get_or-set_same xs 0 q 0 l)) a;
-      inputs = λ i h. absurd (omega arith);
-      moves = λ i h. absurd (omega arith);
-    }
+  pub starts : (q : ℕ) → Least (2 ^ s.registers) (initial_in s (bad s d)) q → TraceTo s d 0 (at (q ∷ [])) (at [])
+  starts q l = record { start = l; inputs = λ i h. absurd (omega arith); moves = λ i h. absurd (omega arith) }
 
-    pub steps : (t q v : ℕ) → t + 1 < length xs → t < length ys → TraceTo s d t (at xs) (at ys)
-        → Least (2 ^ s.inputs) (leads_into s (bad s (d - t - 1)) (at xs t)) v → q ≡ s.next (at xs t) v → TraceTo s d (t + 1) (at (set xs (t + 1) q)) (at (set ys t v))
-    steps t q v lx ly l a e =
-        let x : at (set xs (t + 1) q) t ≡ at xs t = let ne : t ≢ t + 1 = apart t in get_or-set_other xs (t + 1) t q 0 ne in
-        let y = get_or-set_same ys t v 0 ly in
-        let z : at (set xs (t + 1) q) (suc t) ≡ q = ap (at (set xs (t + 1) q)) (sym (add-one t)) ∙ get_or-set_same xs (t + 1) q 0 lx in
-        subst (λ i. TraceTo s d i (at (set xs (t + 1) q)) (at (set ys t v))) (sym (add-one t))
-        (traced_more t (at (set xs (t + 1) q)) (at (set ys t v))
-        (traced_like t (at xs) (at ys) (at (set xs (t + 1) q)) (at (set ys t v))
-        (λ i h. sym (get_or-set_other xs (t + 1) i q 0 (below i t h)))
-        (λ i h. sym (get_or-set_other ys t i v 0 (under i t h))) l)
-        (subst (λ k. Least (2 ^ s.inputs) (leads_into s (bad s (d - t - 1)) k) (at (set ys t v) t)) (sym x)
-        (subst (Least (2 ^ s.inputs) (leads_into s (bad s (d - t - 1)) (at xs t))) (sym y) a))
-        (z ∙ (e ∙ (ap (λ k. s.next k v) (sym x) ∙ ap (s.next (at (set xs (t + 1) q) t)) (sym y)))))
-      where
-        apart : (t : ℕ) → t ≡ t + 1 → ⊥
-        apart t e = omega arith
+  module _ (t : ℕ) (xs ys : List ℕ) (lx : length xs ≡ suc t) (ly : length ys ≡ t) (l : TraceTo s d t (at xs) (at ys)) where
+    pub state_now : Closed s → State s (at xs t)
+    state_now closed = traced_state closed t (at xs) (at ys) l t (omega arith)
 
-        below : (i t : ℕ) → i ≤ t → i ≡ t + 1 → ⊥
-        below i t h e = omega arith
+    pub state_next : (q : ℕ) → at (xs ++ q ∷ []) (suc t) ≡ q
+    state_next q = ap (at (xs ++ q ∷ [])) (sym lx) ∙ get_or-append_seam xs q [] 0
 
-        under : (i t : ℕ) → i < t → i ≡ t → ⊥
-        under i t h e = omega arith
+    module _ (v : ℕ) where
+      input_now : at (ys ++ v ∷ []) t ≡ v
+      input_now = ap (at (ys ++ v ∷ [])) (sym ly) ∙ get_or-append_seam ys v [] 0
 
-    pub finishes : (v : ℕ) → d < length ys → TraceTo s d d (at xs) (at ys) → Least (2 ^ s.inputs) (faulty s (at xs d)) v → Trace s d (at xs) (at (set ys d v))
-    finishes v l h a = record {
-      steps = traced_like d (at xs) (at ys) (at xs) (at (set ys d v)) (λ i b. refl) (λ i b. sym (get_or-set_other ys d i v 0 (under i b))) h;
-      last = subst (Least (2 ^ s.inputs) (faulty s (at xs d))) (sym (get_or-set_same ys d v 0 l)) a;
-    }
-      where
-        under : (i : ℕ) → i < d → i ≡ d → ⊥
-        under i h e = omega arith
+      inputs_before : (i : ℕ) → i < t → at ys i ≡ at (ys ++ v ∷ []) i
+      inputs_before i h = sym (get_or_append_left ys (v ∷ []) 0 i (omega arith))
 
-    pub state_now : Closed s → (t : ℕ) → TraceTo s d t (at xs) (at ys) → State s (at xs t)
-    state_now closed t l = traced_state closed t (at xs) (at ys) l t (omega arith)
+      pub steps : (q : ℕ) → Least (2 ^ s.inputs) (leads_into s (bad s (d - t - 1)) (at xs t)) v → q ≡ s.next (at xs t) v
+          → TraceTo s d (suc t) (at (xs ++ q ∷ [])) (at (ys ++ v ∷ []))
+      steps q a e =
+          traced_more t _ _ (traced_like t (at xs) (at ys) _ _ before inputs_before l)
+          (subst (λ k. Least (2 ^ s.inputs) (leads_into s (bad s (d - t - 1)) k) (at (ys ++ v ∷ []) t)) (before t (omega arith))
+          (subst (Least (2 ^ s.inputs) (leads_into s (bad s (d - t - 1)) (at xs t))) (sym input_now) a))
+          (state_next q ∙ e ∙ ap₂ s.next (before t (omega arith)) (sym input_now))
+        where
+          before : (i : ℕ) → i ≤ t → at xs i ≡ at (xs ++ q ∷ []) i
+          before i h = sym (get_or_append_left xs (q ∷ []) 0 i (omega arith))
+
+      pub finishes : t ≡ d → Least (2 ^ s.inputs) (faulty s (at xs t)) v → Trace s d (at xs) (at (ys ++ v ∷ []))
+      finishes e a = record {
+        steps = subst (λ n. TraceTo s d n (at xs) (at (ys ++ v ∷ []))) e (traced_like t (at xs) (at ys) _ _ (λ i h. refl) inputs_before l);
+        last = subst (λ n. Least (2 ^ s.inputs) (faulty s (at xs n)) (at (ys ++ v ∷ []) n)) e (subst (Least (2 ^ s.inputs) (faulty s (at xs t))) (sym input_now) a);
+      }

@@ -1,72 +1,59 @@
--- What the searches of a trace come to where the sets are kept and the verdict is unsafe.
-use Rattle.std.proofs.Common.{◌≡◌, ℕ, ◌-◌, ◌^◌, ◌<◌, List, get_or, Ok, Err, sym, subst, arith}
+-- What the searches of a trace come to where the sets are kept.
+use Rattle.std.proofs.Common.{◌≡◌, ℕ, ◌^◌, ◌<◌, Bool, true, Ok, Err, Result, sym, ap, ◌∙◌, subst}
 use Rattle.std.proofs.lemmas.Bool.{both_ways}
+use Rattle.std.specs.Borrow.{MutBor}
+use Rattle.store.specs.Fun.{some}
 use Rattle.store.specs.Meaning.{Shown}
 use Rattle.making.specs.declared.fault.Fault.{Fault}
+use Rattle.making.specs.Making.{Means}
 use Rattle.runs.specs.Models.{Model, system}
-use Rattle.runs.specs.Search.{faulty, leads_into, bad, initial_in, unsafe, verdict, Reached, Least, TraceTo}
-use Rattle.runs.specs.Systems.{State, Input, Closed}
-use Rattle.runs.specs.Verdicts.{Traces}
-use Rattle.runs.proofs.Models.{functions_exact}
+use Rattle.runs.specs.Search.{faulty, leads_into, bad, initial_in, Least}
+use Rattle.runs.specs.Systems.{State, Input}
+use Rattle.runs.specs.Valuations.{set_fn}
 use Rattle.runs.proofs.Some.{none_found}
-use Rattle.runs.proofs.Traces.{traces}
-use Rattle.engine.specs.declared.inner.Inner.{Inner}
+use Rattle.engine.specs.declared.search.Search.{Search}
 use Rattle.engine.specs.Keeping.{Sets}
-use Rattle.engine.specs.Questions.{Readable, GoesTo, FindsStart, FindsLead, FindsFault}
-use Rattle.engine.proofs.Keepings.{never, readable}
-use Rattle.engine.proofs.Tracings.{state_now}
+use Rattle.engine.specs.Questions.{Readable, GoesTo, Begins, Leads, Faults, Finds, Telling}
+use Rattle.engine.proofs.Keepings.{readable}
 
-abbrev KeptSets : Model → Inner → Shown → Type 0
-KeptSets m k s = Sets m k.count (record { store = s; inner = k })
+-- what is found, and that something is
+module _ (f : ℕ → Bool) (n : ℕ) (r : Result ℕ Fault) (h : Finds n f r) where
+  pub found : {x : ℕ} → r ≡ Ok x → Least n f x
+  found e = subst (Finds n f) e h
+
+  pub lost : {e : Fault} → some f n ≡ true → r ≡ Err e → ⊥
+  lost t e = both_ways _ (none_found f n (subst (Finds n f) e h)) t
 
 -- the store shows the same
-pub sets_still : (m : Model) (k : Inner) (s t : Shown) → t ≡ s → KeptSets m k s → KeptSets m k t
-sets_still m k s t e = subst (λ x. KeptSets m k x) (sym e)
+pub sets_still : (m : Model) (j : ℕ) (k : Search) (s t : Shown) → t ≡ s → Sets m j s k → Sets m j t k
+sets_still m j k s t e = subst (λ x. Sets m j x k) (sym e)
 
-module _ (m : Model) (k : Inner) (s : Shown) (h : KeptSets m k s) where
-  known : Readable s m k.parts
-  known = readable m k.count (record { store = s; inner = k }) h
+module _ (m : Model) (j : ℕ) (s : Shown) (k : Search) (h : Sets m j s k) where
+  pub next_is : (q v : ℕ) (r : Result ℕ Fault) → State (system m) q → Input (system m) v → GoesTo s k.parts q v r → r ≡ Ok ((system m).next q v)
+  next_is q v r lq lv f = f m (readable m j s k h) lq lv
 
-  closed : Closed (system m)
-  closed = (functions_exact m h.valid).stepped.closed
+  module _ {A : Type 0} (shows : A → Shown) (calls : MutBor A → ℕ → Result Bool Fault → MutBor A → Type 0) (count : ℕ) (r : Result ℕ Fault)
+      (finds : (f : ℕ → Bool) → Telling shows calls s count f → Finds count f r) where
+    known : (t : Shown) → t ≡ s → Readable t m k.parts
+    known t e = subst (λ x. Readable x m k.parts) (sym e) (readable m j s k h)
 
-  pub start_found : (q : ℕ) → FindsStart s k.parts (get_or k.sets k.count 0) (Ok q) → Least (2 ^ (system m).registers) (initial_in (system m) (bad (system m) k.count)) q
-  start_found q f = f m k.count known (h.sets k.count (omega arith))
+    pub start : count ≡ 2 ^ k.parts.n → ((a b : MutBor A) (x : ℕ) (o : Result Bool Fault) → calls a x o b → Begins (shows a.now) k.parts k.set x o)
+        → Finds (2 ^ (system m).registers) (initial_in (system m) (bad (system m) j)) r
+    start e q =
+        let n = e ∙ ap (λ n. 2 ^ n) h.registers in
+        subst (λ n. Finds n (initial_in (system m) (bad (system m) j)) r) n
+        (finds _ (λ a b x o p l c. q a b x o c m j (known _ p) (subst (λ t. Means t k.set (set_fn m j)) (sym p) h.set) (subst (λ i. x < i) n l)))
 
-  pub next_found : (q v x : ℕ) → State (system m) q → Input (system m) v → GoesTo s k.parts q v (Ok x) → x ≡ (system m).next q v
-  next_found q v x lq lv f = let e = f m known lq lv in cc
+    module _ (e : count ≡ 2 ^ k.parts.m) (y : ℕ) (ly : State (system m) y) where
+      pub lead : (i a : ℕ) → Means s a (set_fn m i) → ((p b : MutBor A) (x : ℕ) (o : Result Bool Fault) → calls p x o b → Leads (shows p.now) k.parts a y x o)
+          → Finds (2 ^ (system m).inputs) (leads_into (system m) (bad (system m) i) y) r
+      lead i a d q =
+          let n = e ∙ ap (λ n. 2 ^ n) h.inputs in
+          subst (λ n. Finds n (leads_into (system m) (bad (system m) i) y) r) n
+          (finds _ (λ p b x o z l c. q p b x o c m i (known _ z) (subst (λ t. Means t a (set_fn m i)) (sym z) d) ly (subst (λ i. x < i) n l)))
 
-  pub next_lost : (q v : ℕ) (x : Fault) → State (system m) q → Input (system m) v → GoesTo s k.parts q v (Err x) → ⊥
-  next_lost q v x lq lv f = let e = f m known lq lv in never (cc)
-
-  module _ (xs ys : List ℕ) (t : ℕ) (l : TraceTo (system m) k.count t (λ i. get_or xs i 0) (λ i. get_or ys i 0)) where
-    pub state_found : State (system m) (get_or xs t 0)
-    state_found = state_now (system m) k.count xs ys closed t l
-
-    pub lead_found : (v : ℕ) → t < k.count → FindsLead s k.parts (get_or k.sets (k.count - t - 1) 0) (get_or xs t 0) (Ok v)
-        → Least (2 ^ (system m).inputs) (leads_into (system m) (bad (system m) (k.count - t - 1)) (get_or xs t 0)) v
-    lead_found v b f = f m (k.count - t - 1) known (h.sets (k.count - t - 1) (omega arith)) state_found
-
-    pub fault_found : (v : ℕ) → FindsFault s k.parts (get_or xs t 0) (Ok v) → Least (2 ^ (system m).inputs) (faulty (system m) (get_or xs t 0)) v
-    fault_found v f = f m known state_found
-
-  -- a search always finds
-  module _ (r : Reached (system m) k.count) (e : verdict (system m) k.count ≡ unsafe k.count) where
-    tracing : Traces (system m) k.count
-    tracing = traces (system m) closed k.count r e
-
-    pub start_lost : (x : Fault) → FindsStart s k.parts (get_or k.sets k.count 0) (Err x) → ⊥
-    start_lost x f = both_ways _ (none_found (initial_in (system m) (bad (system m) k.count)) (2 ^ (system m).registers) (f m k.count known (h.sets k.count (omega arith)))) tracing.begins
-
-    module _ (xs ys : List ℕ) (t : ℕ) (l : TraceTo (system m) k.count t (λ i. get_or xs i 0) (λ i. get_or ys i 0)) where
-      pub lead_lost : (x : Fault) → t < k.count → FindsLead s k.parts (get_or k.sets (k.count - t - 1) 0) (get_or xs t 0) (Err x) → ⊥
-      lead_lost x b f = both_ways _
-          (none_found (leads_into (system m) (bad (system m) (k.count - t - 1)) (get_or xs t 0)) (2 ^ (system m).inputs)
-          (f m (k.count - t - 1) known (h.sets (k.count - t - 1) (omega arith)) (state_found xs ys t l)))
-          (tracing.goes_on (λ i. get_or xs i 0) (λ i. get_or ys i 0) t b l)
-
-    pub fault_lost : (xs ys : List ℕ) → TraceTo (system m) k.count k.count (λ i. get_or xs i 0) (λ i. get_or ys i 0)
-        → (x : Fault) → FindsFault s k.parts (get_or xs k.count 0) (Err x) → ⊥
-    fault_lost xs ys l x f = both_ways _
-        (none_found (faulty (system m) (get_or xs k.count 0)) (2 ^ (system m).inputs) (f m known (state_found xs ys k.count l)))
-        (tracing.ends (λ i. get_or xs i 0) (λ i. get_or ys i 0) l)
+      pub fault : ((p b : MutBor A) (x : ℕ) (o : Result Bool Fault) → calls p x o b → Faults (shows p.now) k.parts y x o)
+          → Finds (2 ^ (system m).inputs) (faulty (system m) y) r
+      fault q =
+          let n = e ∙ ap (λ n. 2 ^ n) h.inputs in
+          subst (λ n. Finds n (faulty (system m) y) r) n (finds _ (λ p b x o z l c. q p b x o c m (known _ z) ly (subst (λ i. x < i) n l)))

@@ -2,7 +2,6 @@
 use Rattle.std.specs.Prelude.{◌≡◌, ℕ, suc, Result}
 use Rattle.store.specs.Meaning.{Shown, Lawful}
 use Rattle.making.specs.declared.fault.Fault.{Fault}
-use Rattle.making.specs.declared.parts.Parts.{Parts}
 use Rattle.making.specs.Making.{Means}
 use Rattle.making.specs.Loads.{Kept, advance_list}
 use Rattle.making.specs.Ends.{Ends, located}
@@ -11,15 +10,18 @@ use Rattle.runs.specs.Search.{open_yet, verdict, Reached}
 use Rattle.runs.specs.Valuations.{claim_fn, next_fn, init_fn, set_fn}
 use Rattle.uses.specs.Calls.{loaded, told}
 use Rattle.engine.specs.declared.found.Found.{Found}
+use Rattle.engine.specs.declared.search.Search.{Search}
+use Rattle.arrayvec.specs.ArrayVec.{array_vec_len}
 
 -- the numbers at hand are those of B_j, of Init and of the circuit, and the verdict is open
-pub record Ready (s : Shown) (m : Model) (j from : ℕ) (k : Parts) : Type 0 where
+pub record Ready (s : Shown) (m : Model) (j : ℕ) (k : Search) : Type 0 where
   pub valid : Valid m
-  pub registers : k.n ≡ m.circuit.registers
-  pub inputs : k.m ≡ m.circuit.inputs
-  pub parts : Kept s k (next_fn m) (claim_fn m m.assumption)
-  pub init : Means s k.init (init_fn m)
-  pub set : Means s from (set_fn m j)
+  pub registers : k.parts.n ≡ m.circuit.registers
+  pub inputs : k.parts.m ≡ m.circuit.inputs
+  pub parts : Kept s k.parts (next_fn m) (claim_fn m m.assumption)
+  pub init : Means s k.parts.init (init_fn m)
+  pub count : array_vec_len k.earlier ≡ j
+  pub set : Means s k.set (set_fn m j)
   pub reached : Reached (system m) j
   pub undecided : verdict (system m) j ≡ open_yet
 
@@ -30,5 +32,5 @@ pub record Reaches (t : Shown) (m : Model) (j : ℕ) (x : Found) : Type 0 where
   pub verdict : x.verdict ≡ told (loaded m (suc j))
 
 -- the list of an advance from B_j is made, and leads to the next set; or a call of it is refused
-abbrev pub Advances : Shown → ℕ → Parts → ℕ → Result Found Fault → Shown → Type 0
-Advances s from k j r t = (m : Model) → Ready s m j from k → Ends located s t (advance_list m j) (Reaches t m j) r
+abbrev pub Advances : Shown → Search → Result Found Fault → Shown → Type 0
+Advances s k r t = (m : Model) (j : ℕ) → Ready s m j k → Ends located s t (advance_list m j) (Reaches t m j) r

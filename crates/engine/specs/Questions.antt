@@ -1,5 +1,7 @@
 -- What the questions of a session promise one another: s is what the store shows.
-use Rattle.std.specs.Prelude.{◌≡◌, ℕ, ◌+◌, ◌*◌, ◌^◌, ◌<◌, ◌≤◌, Bool, false, Ok, Err, Result, slice_index}
+use Rattle.std.specs.Prelude.{◌≡◌, ℕ, ◌+◌, ◌*◌, ◌^◌, ◌<◌, ◌≤◌, Bool, false, Ok, Err, Result, length, slice_index}
+use Rattle.std.specs.Borrow.{MutBor}
+use Rattle.arrayvec.specs.ArrayVec.{array_vec_len}
 use Rattle.store.specs.Fun.{Fn}
 use Rattle.store.specs.Meaning.{Shown}
 use Rattle.making.specs.declared.fault.Fault.{Fault}
@@ -11,7 +13,7 @@ use Rattle.runs.specs.Valuations.{claim_fn, next_fn, init_fn, set_fn}
 use Rattle.runs.specs.Models.{Model, system, Valid}
 use Rattle.runs.specs.Search.{faulty, leads_into, bad, initial_in, unsafe, verdict, Reached, Least, Trace}
 use Rattle.runs.specs.Systems.{State, Input}
-use Rattle.engine.specs.declared.inner.Inner.{Inner}
+use Rattle.engine.specs.declared.search.Search.{Search}
 use Rattle.engine.specs.declared.path.Path.{Path}
 use Rattle.engine.specs.Keeping.{Sets}
 
@@ -42,27 +44,28 @@ Faults s k q v r = (m : Model) → Readable s m k → State (system m) q → Inp
 abbrev pub Begins : Shown → Parts → ℕ → ℕ → Result Bool Fault → Type 0
 Begins s k a q r = (m : Model) (i : ℕ) → Readable s m k → Means s a (set_fn m i) → State (system m) q → r ≡ Ok (initial_in (system m) (bad (system m) i) q)
 
+-- a call of a test leaves what the store shows
+abbrev pub Keeping : {A : Type 0} → (A → Shown) → (MutBor A → ℕ → Result Bool Fault → MutBor A → Type 0) → Type 0
+Keeping {A} shows calls = (a b : MutBor A) (x : ℕ) (r : Result Bool Fault) → calls a x r b → shows b.now ≡ shows a.now
+
+-- below n a test answers f, where the store shows s
+abbrev pub Telling : {A : Type 0} → (A → Shown) → (MutBor A → ℕ → Result Bool Fault → MutBor A → Type 0) → Shown → ℕ → (ℕ → Bool) → Type 0
+Telling {A} shows calls s n f = (a b : MutBor A) (x : ℕ) (r : Result Bool Fault) → shows a.now ≡ s → x < n → calls a x r b → r ≡ Ok (f x)
+
 -- the smallest number below n at which f holds; a refusal if there is none
 abbrev pub Finds : ℕ → (ℕ → Bool) → Result ℕ Fault → Type 0
 Finds n f (Ok x) = Least n f x
 Finds n f (Err e) = (x : ℕ) → x < n → f x ≡ false
 
-abbrev pub FindsStart : Shown → Parts → ℕ → Result ℕ Fault → Type 0
-FindsStart s k a r = (m : Model) (i : ℕ) → Readable s m k → Means s a (set_fn m i) → Finds (2 ^ (system m).registers) (initial_in (system m) (bad (system m) i)) r
-
-abbrev pub FindsLead : Shown → Parts → ℕ → ℕ → Result ℕ Fault → Type 0
-FindsLead s k a q r = (m : Model) (i : ℕ) → Readable s m k → Means s a (set_fn m i) → State (system m) q
-    → Finds (2 ^ (system m).inputs) (leads_into (system m) (bad (system m) i) q) r
-
-abbrev pub FindsFault : Shown → Parts → ℕ → Result ℕ Fault → Type 0
-FindsFault s k q r = (m : Model) → Readable s m k → State (system m) q → Finds (2 ^ (system m).inputs) (faulty (system m) q) r
-
 -- the path of a trace of d steps
 abbrev pub TracedBy : Model → ℕ → Result Path Fault → Type 0
-TracedBy m d (Ok p) = Trace (system m) d (λ t. slice_index p.states t) (λ t. slice_index p.inputs t)
+TracedBy m d (Ok p) = Trace (system m) d (λ t. slice_index p.states.items t) (λ t. slice_index p.inputs.items t)
 TracedBy m d (Err e) = ⊥
 
+-- a state and an input for each set
+abbrev pub Covers : Search → Path → Type 0
+Covers k p = (length p.states.items ≡ array_vec_len k.earlier + 1) × (length p.inputs.items ≡ array_vec_len k.earlier + 1)
+
 -- where the sets are kept and the last verdict is unsafe
-abbrev pub Walks : Shown → Inner → Result Path Fault → Type 0
-Walks s k r = (m : Model) → Sets m k.count (record { store = s; inner = k }) → Reached (system m) k.count → verdict (system m) k.count ≡ unsafe k.count
-    → TracedBy m k.count r
+abbrev pub Walks : Shown → Search → Result Path Fault → Type 0
+Walks s k r = (m : Model) (j : ℕ) → Sets m j s k → Reached (system m) j → verdict (system m) j ≡ unsafe j → TracedBy m j r

@@ -1,64 +1,63 @@
 // The call that makes the next set.
 ghost use Rattle.std.specs.Prelude.{◌≡◌, ◌<◌, true, is_err};
+ghost use Rattle.arrayvec.specs.ArrayVec.{array_vec_len};
 ghost use Rattle.uses.specs.Calls.{advance};
-ghost use Rattle.engine.specs.Keeping.{world, Next};
+ghost use Rattle.engine.specs.Keeping.{world, searching, Next};
 ghost use Rattle.engine.specs.Advancing.{Advances};
 
 use super::found::Found;
+use super::search::Search;
 use super::session::Session;
+use description::part::Part;
 use making::fault::Fault;
-use making::parts::Parts;
 use making::{back, place_at};
 use store::Store;
 use uses::verdict::Verdict;
 
-const MOST_ADVANCES: u16 = 256;
+impl Search {
+    // From the last set the next one, and the verdict with it.
+    fn step<S: Store>(&self, store: &mut S) -> Result<Found, Fault>
+        requires { array_vec_len self.now.earlier < 256 }
+        ensures { Advances (S.Store.shows store.old) self.now result (S.Store.shows store.new) }
+    {
+        let count = self.earlier.len() as u16;
+        let set = place_at(back(store, self.set, &self.parts), Part::Sets, count)?;
+        let verdict = if set == self.set {
+            Verdict::Safe
+        } else if place_at(store.and(set, self.parts.init), Part::Sets, count)? == 0 {
+            Verdict::Open
+        } else {
+            Verdict::Unsafe(count + 1)
+        };
+        Ok(Found { set, verdict })
+    }
 
-// From the set B_count the next one, and the verdict with it.
-fn step<S: Store>(store: &mut S, from: u16, parts: &Parts, count: u16) -> Result<Found, Fault>
-    requires { count < 256 }
-    ensures { Advances (S.Store.shows store.old) from parts.now count result (S.Store.shows store.new) }
-{
-    let set = place_at(back(store, from, parts), 4, count)?;
-    if set == from {
-        return Ok(Found {
-            set,
-            verdict: Verdict::Safe,
-        });
+    fn advance<S: Store>(&mut self, store: &mut S) -> Result<Verdict, Fault>
+        ensures next { Next (searching (S.Store.shows store.old) self.old) (advance result) (searching (S.Store.shows store.new) self.new) }
+        ensures refused { is_err result ≡ true → self.new ≡ self.old }
+    {
+        let Verdict::Open = self.verdict else {
+            return Err(Fault::Settled);
+        };
+        if self.earlier.is_full() {
+            return Err(Fault::Settled);
+        }
+        let found = self.step(store)?;
+        self.earlier.push(self.set);
+        self.set = found.set;
+        self.verdict = found.verdict;
+        Ok(found.verdict)
     }
-    let met = place_at(store.and(set, parts.init), 4, count)?;
-    if met == 0 {
-        return Ok(Found {
-            set,
-            verdict: Verdict::Open,
-        });
-    }
-    Ok(Found {
-        set,
-        verdict: Verdict::Unsafe(count + 1),
-    })
 }
 
 impl<S: Store> Session<S> {
     pub fn advance(&mut self) -> Result<Verdict, Fault>
         ensures next { Next (world S.Store.shows self.old) (advance result) (world S.Store.shows self.new) }
-        ensures refused { is_err result ≡ true → self.new.inner ≡ self.old.inner }
+        ensures refused { is_err result ≡ true → self.new.search ≡ self.old.search }
     {
-        match self.inner.verdict {
-            Verdict::Empty => return Err(Fault::Empty),
-            Verdict::Open => {}
-            _ => return Err(Fault::Settled),
+        match self.search.as_mut() {
+            Some(search) => search.advance(&mut self.store),
+            None => Err(Fault::Empty),
         }
-        let count = self.inner.count;
-        if count >= MOST_ADVANCES {
-            return Err(Fault::Settled);
-        }
-        let from = self.inner.sets[count as usize];
-        let parts = self.inner.parts;
-        let found = step(&mut self.store, from, &parts, count)?;
-        self.inner.sets[count as usize + 1] = found.set;
-        self.inner.count = count + 1;
-        self.inner.verdict = found.verdict;
-        Ok(found.verdict)
     }
 }

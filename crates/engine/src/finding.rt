@@ -1,55 +1,24 @@
-// The smallest states and inputs of a trace. One that is sought is always there, so that none is found only in a store that lost a number.
-ghost use Rattle.std.specs.Prelude.{◌≡◌};
-ghost use Rattle.engine.specs.Questions.{FindsStart, FindsLead, FindsFault};
+// The smallest states and inputs of a trace.
+ghost use Rattle.std.specs.Prelude.{◌≡◌, ℕ, Bool};
+ghost use Rattle.engine.specs.Questions.{Finds, Keeping, Telling};
 
-use super::stepping::{at_fault, begins_in, leads_into};
-use super::values::power;
 use making::fault::Fault;
-use making::parts::Parts;
 use store::Store;
 
-// The smallest initial state in a set.
-pub(crate) fn first_state<S: Store>(store: &mut S, parts: &Parts, set: u16) -> Result<u16, Fault>
-    ensures same { S.Store.shows store.new ≡ S.Store.shows store.old }
-    ensures finds { FindsStart (S.Store.shows store.old) parts.now set result }
-{
-    for q in 0..power(parts.n) {
-        let found = begins_in(store, parts, set, q)?;
-        if found {
-            return Ok(q);
-        }
-    }
-    Err(Fault::Number)
-}
-
-// The smallest input that satisfies the assumption at q and leads into a set.
-pub(crate) fn first_lead<S: Store>(
+// The smallest number below `count` at which `holds` says so. One that is sought is always there, so that none is found only in a store that lost a number.
+pub(crate) fn smallest<S: Store, F: Fn(&mut S, u16) -> Result<bool, Fault>>(
     store: &mut S,
-    parts: &Parts,
-    set: u16,
-    q: u16,
+    count: u16,
+    holds: F,
 ) -> Result<u16, Fault>
+    requires callable { F.IsAlwaysCallable holds }
+    requires still { Keeping S.Store.shows (F.post holds) }
     ensures same { S.Store.shows store.new ≡ S.Store.shows store.old }
-    ensures finds { FindsLead (S.Store.shows store.old) parts.now set q result }
+    ensures finds { (f : ℕ → Bool) → Telling S.Store.shows (F.post holds) (S.Store.shows store.old) count f → Finds count f result }
 {
-    for v in 0..power(parts.m) {
-        let found = leads_into(store, parts, set, q, v)?;
-        if found {
-            return Ok(v);
-        }
-    }
-    Err(Fault::Number)
-}
-
-// The smallest input that satisfies the assumption at q where the property fails.
-pub(crate) fn first_fault<S: Store>(store: &mut S, parts: &Parts, q: u16) -> Result<u16, Fault>
-    ensures same { S.Store.shows store.new ≡ S.Store.shows store.old }
-    ensures finds { FindsFault (S.Store.shows store.old) parts.now q result }
-{
-    for v in 0..power(parts.m) {
-        let found = at_fault(store, parts, q, v)?;
-        if found {
-            return Ok(v);
+    for x in 0..count {
+        if holds(store, x)? {
+            return Ok(x);
         }
     }
     Err(Fault::Number)

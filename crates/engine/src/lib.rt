@@ -2,14 +2,13 @@
 #![tactic(auto)]
 
 mod advance;
-mod described;
 mod finding;
 mod found;
-pub mod inner;
 mod load;
-pub mod path;
+mod path;
 pub mod questions;
+pub mod search;
 pub mod session;
 mod stepping;
-pub mod trace;
+mod trace;
 mod values;

@@ -1,77 +1,32 @@
 // The call that takes a circuit and its claims.
-ghost use Rattle.std.specs.Prelude.{◌≡◌, true, is_err, Err, MatchResult};
-ghost use Rattle.circuit.specs.Reading.{netlist};
-ghost use Rattle.runs.specs.Models.{sizes};
-ghost use Rattle.uses.specs.Calls.{load, Checked};
+ghost use Rattle.std.specs.Prelude.{◌≡◌, true, is_err};
+ghost use Rattle.uses.specs.Calls.{load};
 ghost use Rattle.engine.specs.Keeping.{world, Next};
-ghost use Rattle.engine.specs.Loading.{Understood, BeginsFrom};
+ghost use Rattle.engine.specs.Loading.{BeginsFrom};
 
-use super::described::Described;
-use super::inner::Inner;
+use super::search::Search;
 use super::session::Session;
-use circuit::circuit::Circuit;
-use circuit::sizes::Sizes;
+use arrayvec::ArrayVec;
+use description::describe;
 use making::build;
 use making::fault::Fault;
 use making::parts::Built;
 use store::Store;
 use uses::verdict::Verdict;
 
-// The sizes that a claim's names must keep to.
-fn sizes_of(circuit: &Circuit) -> Sizes
-    ensures { result ≡ sizes (netlist circuit.now) }
-{
-    Sizes {
-        registers: circuit.registers() as u16,
-        inputs: circuit.inputs() as u16,
-        gates: circuit.gate_count(),
-    }
-}
-
-// All checks of a load, for a store of `width` variables.
-fn understand(
-    file: &[u8],
-    assumption: &[u8],
-    property: &[u8],
-    width: u8,
-) -> Result<Described, Fault>
-    ensures { MatchResult result (Understood width file.now assumption.now property.now) (λ e. Checked width file.now assumption.now property.now (Err e)) }
-{
-    let circuit = match circuit::read(file, width) {
-        Ok(circuit) => circuit,
-        Err(refusal) => return Err(Fault::Circuit(refusal)),
-    };
-    let sizes = sizes_of(&circuit);
-    let assumption = match claim::read(assumption, sizes) {
-        Ok(codes) => codes,
-        Err(fault) => return Err(Fault::Assumption(fault)),
-    };
-    let property = match claim::read(property, sizes) {
-        Ok(codes) => codes,
-        Err(fault) => return Err(Fault::Property(fault)),
-    };
-    Ok(Described {
-        circuit,
-        assumption,
-        property,
-    })
-}
-
-// What a session keeps after a load.
-fn begin(built: Built) -> Inner
+// The search that a load begins.
+fn begin(built: Built) -> Search
     ensures { BeginsFrom built result }
 {
-    let mut sets = [0; 257];
-    sets[0] = built.set;
     let verdict = if built.met == 0 {
         Verdict::Open
     } else {
         Verdict::Unsafe(0)
     };
-    Inner {
+    Search {
         parts: built.parts,
-        sets,
-        count: 0,
+        earlier: ArrayVec::new(),
+        set: built.set,
         verdict,
     }
 }
@@ -84,22 +39,22 @@ impl<S: Store> Session<S> {
         property: &[u8],
     ) -> Result<Verdict, Fault>
         ensures next { Next (world S.Store.shows self.old) (load file.now assumption.now property.now result) (world S.Store.shows self.new) }
-        ensures refused { is_err result ≡ true → self.new.inner ≡ self.old.inner }
+        ensures refused { is_err result ≡ true → self.new.search ≡ self.old.search }
     {
-        match self.inner.verdict {
-            Verdict::Empty => {}
-            _ => return Err(Fault::Loaded),
+        if self.search.is_some() {
+            return Err(Fault::Loaded);
         }
         let width = self.store.figures().variables;
-        let described = understand(file, assumption, property, width)?;
+        let described = describe(file, assumption, property, width)?;
         let built = build(
             &mut self.store,
             &described.circuit,
             &described.assumption,
             &described.property,
         )?;
-        let inner = begin(built);
-        self.inner = inner;
-        Ok(inner.verdict)
+        let search = begin(built);
+        let verdict = search.verdict;
+        self.search = Some(search);
+        Ok(verdict)
     }
 }

@@ -1,10 +1,8 @@
-ghost use Rattle.std.specs.Prelude.{◌≡◌, length};
+use arrayvec::ArrayVec;
 
-// The states and the inputs of a trace, from the first on.
-#[derive(Clone, Copy)]
+// The states and the inputs of a trace, from the first on: apart, as a trace is handed out.
+#[derive(Drop)]
 pub(crate) struct Path {
-    pub(crate) states: [u16; 257],
-    pub(crate) inputs: [u16; 257],
-    ghost long: { length states ≡ 257 },
-    ghost wide: { length inputs ≡ 257 },
+    pub(crate) states: ArrayVec<u16, 257>,
+    pub(crate) inputs: ArrayVec<u16, 257>,
 }

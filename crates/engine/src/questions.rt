@@ -5,11 +5,9 @@ ghost use Rattle.uses.specs.Promise.{Promise};
 ghost use Rattle.uses.specs.Uses.{Use};
 ghost use Rattle.engine.specs.Keeping.{world, Keeps, Next};
 
-use super::inner::Inner;
 use super::session::Session;
-use super::values::{power, truth};
+use super::values::power;
 use making::fault::Fault;
-use making::parts::Parts;
 use store::Store;
 use uses::verdict::Verdict;
 
@@ -20,25 +18,9 @@ impl<S: Store> Session<S> {
         ensures begun { Use [] (stand empty (world S.Store.shows result).store) }
         ensures keeps { Keeps empty (world S.Store.shows result) }
     {
-        let parts = Parts {
-            n: 0,
-            m: 0,
-            copies: [0; 8],
-            uncopies: [0; 8],
-            nexts: [0; 8],
-            unnexts: [0; 8],
-            assumed: 0,
-            property: 0,
-            init: 0,
-        };
         Session {
             store,
-            inner: Inner {
-                parts,
-                sets: [0; 257],
-                count: 0,
-                verdict: Verdict::Empty,
-            },
+            search: None,
         }
     }
 
@@ -48,7 +30,10 @@ impl<S: Store> Session<S> {
         ensures next { Next (world S.Store.shows self.old) (ask result) (world S.Store.shows self.new) }
         ensures same { self.new ≡ self.old }
     {
-        self.inner.verdict
+        match &self.search {
+            Some(search) => search.verdict,
+            None => Verdict::Empty,
+        }
     }
 
     // Whether the last set does not hold the state q.
@@ -56,17 +41,16 @@ impl<S: Store> Session<S> {
         ensures next { Next (world S.Store.shows self.old) (inside q result) (world S.Store.shows self.new) }
         ensures same { world S.Store.shows self.new ≡ world S.Store.shows self.old }
     {
-        match self.inner.verdict {
-            Verdict::Empty => return Err(Fault::Empty),
-            Verdict::Safe => {}
-            _ => return Err(Fault::Verdict),
-        }
-        let n = self.inner.parts.n;
-        if q >= power(n) {
+        let Some(search) = &self.search else {
+            return Err(Fault::Empty);
+        };
+        let Verdict::Safe = search.verdict else {
+            return Err(Fault::Verdict);
+        };
+        if q >= power(search.parts.n) {
             return Err(Fault::State);
         }
-        let set = self.inner.sets[self.inner.count as usize];
-        let held = truth(&mut self.store, n, set, q, 0)?;
+        let held = search.truth(&mut self.store, search.set, q, 0)?;
         Ok(!held)
     }
 }

@@ -1,9 +1,9 @@
-use super::inner::Inner;
+use super::search::Search;
 use store::Store;
 
-// A session over one store, which it holds.
+// A session over one store, which it holds, and its search once a circuit is loaded.
 #[derive(Drop)]
 pub struct Session<S: Store> {
     pub(crate) store: S,
-    pub(crate) inner: Inner,
+    pub(crate) search: Option<Search>,
 }

@@ -1,47 +1,48 @@
 // The trace of an unsafe verdict.
-ghost use Rattle.std.specs.Prelude.{◌≡◌, ◌≤◌, length, slice_index};
-ghost use Rattle.uses.specs.Calls.{trace, written};
+ghost use Rattle.std.specs.Prelude.{◌≡◌, IfOk};
+ghost use Rattle.uses.specs.Calls.{trace};
 ghost use Rattle.engine.specs.Keeping.{world, Next};
-ghost use Rattle.engine.specs.Questions.{Walks};
+ghost use Rattle.engine.specs.Questions.{Covers, Walks};
 
-use super::finding::{first_fault, first_lead, first_state};
-use super::inner::Inner;
+use super::finding::smallest;
 use super::path::Path;
+use super::search::Search;
 use super::session::Session;
-use super::stepping::next_state;
+use super::values::power;
+use arrayvec::ArrayVec;
 use making::fault::Fault;
 use store::Store;
 use uses::verdict::Verdict;
 
-// From the smallest initial state in the last set, through the sets before it, to the smallest input at fault.
-fn walk<S: Store>(store: &mut S, inner: &Inner) -> Result<Path, Fault>
-    ensures same { S.Store.shows store.new ≡ S.Store.shows store.old }
-    ensures walks { Walks (S.Store.shows store.old) inner.now result }
-{
-    let parts = &inner.parts;
-    let depth = inner.count as usize;
-    let mut states = [0; 257];
-    let mut inputs = [0; 257];
-    states[0] = first_state(store, parts, inner.sets[depth])?;
-    for t in 0..depth {
-        let q = states[t];
-        let v = first_lead(store, parts, inner.sets[depth - t - 1], q)?;
-        inputs[t] = v;
-        states[t + 1] = next_state(store, parts, q, v)?;
-    }
-    inputs[depth] = first_fault(store, parts, states[depth])?;
-    Ok(Path { states, inputs })
-}
-
-// Writes the first n entries of `from` over those of `to`.
-fn write_over(to: &mut [u16], from: &[u16; 257], n: usize)
-    requires long { length from.now ≡ 257 }
-    requires few { n ≤ 257 }
-    requires fits { n ≤ length to.old }
-    ensures { to.new ≡ written n (λ t. slice_index from.now t) to.old }
-{
-    for t in 0..n {
-        to[t] = from[t];
+impl Search {
+    // From the smallest initial state in the last set, through the sets before it, to the smallest input at fault.
+    fn walk<S: Store>(&self, store: &mut S) -> Result<Path, Fault>
+        ensures same { S.Store.shows store.new ≡ S.Store.shows store.old }
+        ensures covers { IfOk result (Covers self.now) }
+        ensures walks { Walks (S.Store.shows store.old) self.now result }
+    {
+        let states_count = power(self.parts.n);
+        let inputs_count = power(self.parts.m);
+        let mut states = ArrayVec::new();
+        let mut inputs = ArrayVec::new();
+        let mut q = smallest(
+            store,
+            states_count,
+            |store, q| self.begins_in(store, self.set, q),
+        )?;
+        states.push(q);
+        for set in self.earlier.iter().rev() {
+            let v = smallest(
+                store,
+                inputs_count,
+                |store, v| self.leads_into(store, *set, q, v),
+            )?;
+            inputs.push(v);
+            q = self.next_state(store, q, v)?;
+            states.push(q);
+        }
+        inputs.push(smallest(store, inputs_count, |store, v| self.at_fault(store, q, v))?);
+        Ok(Path { states, inputs })
     }
 }
 
@@ -51,20 +52,21 @@ impl<S: Store> Session<S> {
         ensures next { Next (world S.Store.shows self.old) (trace states.old inputs.old states.new inputs.new result) (world S.Store.shows self.new) }
         ensures same { world S.Store.shows self.new ≡ world S.Store.shows self.old }
     {
-        match self.inner.verdict {
-            Verdict::Empty => return Err(Fault::Empty),
-            Verdict::Unsafe(_) => {}
-            _ => return Err(Fault::Verdict),
+        let Some(search) = &self.search else {
+            return Err(Fault::Empty);
+        };
+        let Verdict::Unsafe(_) = search.verdict else {
+            return Err(Fault::Verdict);
+        };
+        let entries = search.earlier.len() + 1;
+        if states.len().min(inputs.len()) < entries {
+            return Err(Fault::Short {
+                needed: entries as u16,
+            });
         }
-        let needed = self.inner.count + 1;
-        let entries = needed as usize;
-        if states.len() < entries || inputs.len() < entries {
-            return Err(Fault::Short { needed });
-        }
-        let inner = self.inner;
-        let path = walk(&mut self.store, &inner)?;
-        write_over(states, &path.states, entries);
-        write_over(inputs, &path.inputs, entries);
+        let path = search.walk(&mut self.store)?;
+        states[..entries].copy_from_slice(path.states.as_slice());
+        inputs[..entries].copy_from_slice(path.inputs.as_slice());
         Ok(())
     }
 }

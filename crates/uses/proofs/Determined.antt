@@ -1,13 +1,15 @@
 -- A call with its arguments has one answer, unless it is refused for room.
 use Rattle.std.proofs.Common.{◌≡◌, ℕ, suc, Bool, ◌⊎◌, List, Ok, Err, Result, refl, ap, ap₂, inl, inr, arith}
 use Rattle.making.specs.declared.fault.Fault.{Fault}
+use Rattle.making.specs.declared.fault.Fault.TheVariants.{Description}
 use Rattle.runs.specs.Models.{system}
 use Rattle.runs.proofs.Traces as runs
 use Rattle.uses.specs.declared.verdict.Verdict.{Verdict}
 use Rattle.uses.specs.Calls.{loaded, told, Call, load, advance, ask, trace, inside, Stand, Event}
 use Rattle.uses.specs.Uses.{Step, load_twice, load_wrong, load_full, loads, advance_empty, advance_settled, advance_full, advances, asks, trace_empty, trace_verdict, trace_short, traces, inside_empty, inside_verdict, inside_state, insides}
 use Rattle.uses.specs.Steps.{Alike, both_load, both_advance, both_ask, both_trace, both_inside, Full, full_load, full_advance, Determined}
-use Rattle.uses.proofs.Checks.{never, one_check}
+use Rattle.description.proofs.Checks.{one_check}
+use Rattle.uses.proofs.Told.{never}
 use Rattle.uses.proofs.Written.{written_like}
 use Rattle.uses.proofs.Uses.{closed, Come, come}
 
@@ -20,7 +22,7 @@ load_one load_twice load_twice = inl (refl, refl)
 load_one (load_wrong {x = x} {a = a} {p = p} {e = e} k) (load_wrong {e = e'} k') =
     let h = one_check k k' in
     let i : e ≡ e' = cc in
-    inl (ap (λ f. load x a p (Err f)) i, refl)
+    inl (ap (λ f. load x a p (Err (Description f))) i, refl)
 load_one (load_wrong k) (load_full k' q) = inr (inr (full_load _ _ _ _ _ _))
 load_one (load_wrong k) (loads k' t) = let h = one_check k k' in never (cc)
 load_one (load_full k q) s = inr (inl (full_load _ _ _ _ _ _))

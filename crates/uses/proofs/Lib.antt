@@ -1,4 +1,4 @@
-pub mod Checks
+pub mod Told
 mod Texts
 pub mod Written
 pub mod Uses

@@ -2,6 +2,8 @@
 use Rattle.std.proofs.Common.{◌≡◌, ℕ, suc, ◌^◌, Bool, List, length, Ok, Err, Result, refl, ⊎_elim, arith}
 use Rattle.std.proofs.lemmas.Bool.{cases_lt}
 use Rattle.store.specs.Meaning.{Shown}
+use Rattle.description.specs.Checks.{Checked, right}
+use Rattle.description.specs.declared.fault.Fault.{Fault as Misdescription}
 use Rattle.making.specs.declared.fault.Fault.{Fault}
 use Rattle.making.specs.Loads.{load_list, advance_list}
 use Rattle.runs.specs.Search.{Verdict, unsafe, safe, open_yet, Reached}
@@ -10,17 +12,18 @@ use Rattle.runs.specs.Models.{Model, system, Describes}
 use Rattle.runs.proofs.Verdicts.{verdicts}
 use Rattle.runs.proofs.Traces as runs
 use Rattle.uses.specs.declared.verdict.Verdict.{Verdict as Answer}
-use Rattle.uses.specs.Calls.{State, empty, loaded, load, advance, trace, inside, Stand, stand, Event, Checked, right}
+use Rattle.uses.specs.Calls.{State, empty, loaded, load, advance, trace, inside, Stand, stand, Event}
 use Rattle.uses.specs.Uses.{Step, load_twice, load_wrong, load_full, loads, advance_empty, advance_settled, advance_full, advances, asks, trace_empty, trace_verdict, trace_short, traces, inside_empty, inside_verdict, inside_state, insides}
 use Rattle.uses.specs.Steps.{Answered, Possible}
-use Rattle.uses.proofs.Checks.{never, some_check}
+use Rattle.description.proofs.Checks.{some_check}
+use Rattle.uses.proofs.Told.{never}
 use Rattle.uses.proofs.Uses.{closed, Come, come}
 
 module _ (s : Shown) where
   abbrev Loads : State → (x a p : List ℕ) → Type 0
   Loads st x a p = (r : Result Answer Fault) × (v : Stand) × Step (stand st s) (load x a p r) v
 
-  loads_empty : (x a p : List ℕ) → ((m : Model) → Describes s.vars x a p m → Answered s (load_list m)) → (r : Result Model Fault) → Checked s.vars x a p r → Loads empty x a p
+  loads_empty : (x a p : List ℕ) → ((m : Model) → Describes s.vars x a p m → Answered s (load_list m)) → (r : Result Model Misdescription) → Checked s.vars x a p r → Loads empty x a p
   loads_empty x a p f (Err e) k = (_, _, load_wrong k)
   loads_empty x a p f (Ok m) (right d) = ⊎_elim (λ y. (_, _, loads (right d) y.1)) (λ y. (_, _, load_full (right d) y.2)) (f m d)
 

@@ -1,6 +1,8 @@
 -- From a use of a session to what is promised of it.
 use Rattle.std.proofs.Common.{◌≡◌, ℕ, suc, ◌≤◌, List, length, get_or, Ok, Err, refl, ap, subst, mul-le-mul_right, arith}
 use Rattle.store.specs.Meaning.{Shown, free}
+use Rattle.description.specs.Checks.{Checked, right}
+use Rattle.description.specs.declared.part.Part.{Part}
 use Rattle.making.specs.declared.fault.Fault.TheVariants as fault
 use Rattle.making.specs.Making.{Item, Stops}
 use Rattle.making.specs.Loads.{load_list, advance_list}
@@ -13,11 +15,10 @@ use Rattle.runs.specs.Verdicts.{Unsafe, Meaning}
 use Rattle.runs.specs.Models.{Model, system}
 use Rattle.runs.proofs.Verdicts.{verdicts}
 use Rattle.runs.proofs.Traces as runs
-use Rattle.uses.specs.declared.verdict.Verdict.TheVariants as verdict
-use Rattle.uses.specs.Calls.{State, empty, loaded, tell, told, Call, load, advance, trace, Stand, Event, event, Checked, right}
-use Rattle.uses.specs.Uses.{Step, load_wrong, load_full, advance_full, traces, Use, begun, went_on}
+use Rattle.uses.specs.Calls.{State, empty, loaded, tell, told, Call, load, advance, trace, Stand, Event, event}
+use Rattle.uses.specs.Uses.{Step, load_full, advance_full, traces, Use, begun, went_on}
 use Rattle.uses.specs.Promise.{load_bound, advance_bound, ShortOf, Fair, Every, none, each, Meant, Says, Promised}
-use Rattle.uses.proofs.Checks.{never}
+use Rattle.uses.proofs.Told.{tell_safe, tell_open, tell_unsafe}
 use Rattle.uses.proofs.Texts.{read_operators}
 use Rattle.uses.proofs.Written.{written_at, breaking_like}
 use Rattle.uses.proofs.Uses.{closed, Come, come}
@@ -39,12 +40,11 @@ load_calls {m = m} (right d) =
     let p = read_operators d.property in
     omega (arith, load_length m)
 
-load_room : {w v : Stand} {x a p : List ℕ} {q l u : ℕ} → Step w (load x a p (Err (fault.Room q l u))) v
+load_room : {w v : Stand} {x a p : List ℕ} {q : Part} {l u : ℕ} → Step w (load x a p (Err (fault.Room q l u))) v
     → (m : Model) × Checked w.store.vars x a p (Ok m) × ShortOf w.store v.store (load_list m) (load_bound m (length a) (length p)) q l u
-load_room (load_wrong k) = elim k [ ]
 load_room (load_full {a = a} {p = p} {m = m} k q) = (m, k, short_of (load_bound m (length a) (length p)) q (load_calls k))
 
-advance_room : {w v : Stand} {q l u : ℕ} → Step w (advance (Err (fault.Room q l u))) v
+advance_room : {w v : Stand} {q : Part} {l u : ℕ} → Step w (advance (Err (fault.Room q l u))) v
     → (m : Model) × (j : ℕ) × (w.state ≡ loaded m j) × ShortOf w.store v.store (advance_list m j) (advance_bound m) q l u
 advance_room (advance_full {m = m} {j = j} o q) = (m, j, refl, short_of (advance_bound m) q (advance_length m j))
 
@@ -69,22 +69,6 @@ fair_step h {w = w} {v = v} s g = record {
 fair : {h : List Event} {w : Stand} → Use h w → Every Fair h
 fair begun = none
 fair (went_on {h = h} u s) = each (fair_step h s (come u)) (fair u)
-
--- the verdict in the session's words
-tell_safe : (v : Verdict) → tell v ≡ verdict.Safe → v ≡ safe
-tell_safe (unsafe d) e = never (cc)
-tell_safe safe e = refl
-tell_safe open_yet e = never (cc)
-
-tell_open : (v : Verdict) → tell v ≡ verdict.Open → v ≡ open_yet
-tell_open (unsafe d) e = never (cc)
-tell_open safe e = never (cc)
-tell_open open_yet e = refl
-
-tell_unsafe : (v : Verdict) (d : ℕ) → tell v ≡ verdict.Unsafe d → v ≡ unsafe d
-tell_unsafe (unsafe k) d e = let h : k ≡ d = cc in ap unsafe h
-tell_unsafe safe d e = never (cc)
-tell_unsafe open_yet d e = never (cc)
 
 meant : (m : Model) (j : ℕ) → Meaning (system m) j → Meant m j (told (loaded m j))
 meant m j y = record {

@@ -1,5 +1,5 @@
 -- What was written over the start of an array, and runs that agree up to their end.
-use Rattle.std.proofs.Common.{◌≡◌, ℕ, suc, ◌<◌, List, ◌++◌, map, get_or, drop, sym, ap, ◌∙◌, subst, ap₂, arith}
+use Rattle.std.proofs.Common.{◌≡◌, ℕ, suc, ◌<◌, List, ◌++◌, map, length, get_or, drop, sym, refl, ap, ◌∙◌, subst, ap₂, arith}
 use lib.ListN.{get_or-append}
 use Rattle.std.specs.List.{range_with_len}
 use Rattle.std.proofs.lemmas.List.FromFn.{fill_by_all, length-map-range_with_len, get_or-map-range_with_len}
@@ -10,6 +10,9 @@ pub written_at : (n : ℕ) (f : ℕ → ℕ) (xs : List ℕ) (t : ℕ) → t < n
 written_at n f xs t l =
     get_or-append (map f (range_with_len 0 n)) (drop n xs) 0 t (subst (λ i. t < i) (sym (length-map-range_with_len f 0 n)) l)
     ∙ get_or-map-range_with_len f 0 n t t 0 l (omega arith)
+
+pub written_of : (n : ℕ) (xs ys : List ℕ) → length xs ≡ n → written n (λ t. get_or xs t 0) ys ≡ xs ++ drop n ys
+written_of n xs ys e = ap (λ l. l ++ drop n ys) (sym (fill_by_all (λ t. get_or xs t 0) xs n 0 e (λ k l. refl)))
 
 pub written_like : (n : ℕ) (f g : ℕ → ℕ) (xs : List ℕ) → ((t : ℕ) → t < n → f t ≡ g t) → written n f xs ≡ written n g xs
 written_like n f g xs h =

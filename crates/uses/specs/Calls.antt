@@ -1,16 +1,9 @@
 -- The five calls of a session with their arguments and answers, and what stands before and after each.
-use Rattle.std.specs.Prelude.{◌≡◌, ℕ, Bool, List, ◌++◌, map, drop, Ok, Err, Result}
+use Rattle.std.specs.Prelude.{ℕ, Bool, List, ◌++◌, map, drop, Result}
 use Rattle.std.specs.List.{range_with_len}
 use Rattle.store.specs.Meaning.{Shown}
-use Rattle.circuit.specs.declared.refusal.Refusal.{Refusal}
-use Rattle.circuit.specs.Netlists.{Netlist}
-use Rattle.circuit.specs.Rules.{reading}
-use Rattle.claim.specs.declared.fault.Fault.{Fault as Misreading}
-use Rattle.claim.specs.Grammar.{Tree}
-use Rattle.claim.specs.Faults.{Read, Refused}
 use Rattle.making.specs.declared.fault.Fault.{Fault}
-use Rattle.making.specs.declared.fault.Fault.TheVariants as fault
-use Rattle.runs.specs.Models.{Model, system, sizes, Describes}
+use Rattle.runs.specs.Models.{Model, system}
 use Rattle.runs.specs.Search as search
 use Rattle.uses.specs.declared.verdict.Verdict.{Verdict}
 use Rattle.uses.specs.declared.verdict.Verdict.TheVariants as verdict
@@ -57,12 +50,3 @@ event w c v = record { before = w; call = c; after = v }
 -- xs with f 0 to f (n - 1) written over its start
 abbrev pub written : ℕ → (ℕ → ℕ) → List ℕ → List ℕ
 written n f xs = map f (range_with_len 0 n) ++ drop n xs
-
--- what the checks of a load give, for a store of `width` variables: the circuit's, then the whole assumption's, then the whole property's
-pub data Checked (width : ℕ) (file : List ℕ) (assumption : List ℕ) (property : List ℕ) : Result Model Fault → Type 0 where
-  right : {m : Model} → Describes width file assumption property m → Checked width file assumption property (Ok m)
-  wrong_circuit : {e : Refusal} → reading width file ≡ Err e → Checked width file assumption property (Err (fault.Circuit e))
-  wrong_assumption : {c : Netlist} {f : Misreading} → reading width file ≡ Ok c → Refused assumption (sizes c) f
-      → Checked width file assumption property (Err (fault.Assumption f))
-  wrong_property : {c : Netlist} {t : Tree} {f : Misreading} → reading width file ≡ Ok c → Read assumption (sizes c) t → Refused property (sizes c) f
-      → Checked width file assumption property (Err (fault.Property f))

@@ -1,6 +1,8 @@
 -- What every use of a session comes to.
 use Rattle.std.specs.Prelude.{◌≡◌, ℕ, ◌+◌, ◌*◌, ◌<◌, List, [], ◌∷◌, length, Ok, Err, slice_index}
 use Rattle.store.specs.Meaning.{Shown, free, price}
+use Rattle.description.specs.Checks.{Checked}
+use Rattle.description.specs.declared.part.Part.{Part}
 use Rattle.making.specs.declared.fault.Fault.TheVariants as fault
 use Rattle.making.specs.Making.{Item, Stops}
 use Rattle.making.specs.Loads.{load_list, advance_list}
@@ -9,7 +11,7 @@ use Rattle.runs.specs.Systems.{Breaking}
 use Rattle.runs.specs.Verdicts.{Safe, Unsafe, Open}
 use Rattle.uses.specs.declared.verdict.Verdict.{Verdict}
 use Rattle.uses.specs.declared.verdict.Verdict.TheVariants as verdict
-use Rattle.uses.specs.Calls.{State, empty, loaded, told, Call, load, advance, ask, trace, inside, Stand, Event, Checked}
+use Rattle.uses.specs.Calls.{State, empty, loaded, told, Call, load, advance, ask, trace, inside, Stand, Event}
 use Rattle.uses.specs.Uses.{Step, Use}
 
 -- how many making calls a load and an advance take at most, a and p the lengths of the texts
@@ -20,7 +22,7 @@ abbrev pub advance_bound : Model → ℕ
 advance_bound m = 10 * m.circuit.registers + 3 * m.circuit.inputs + 3
 
 -- the store refused a call of this list, whose price exceeded the free units there and then; and the free units at the start did not cover `bound` calls
-pub record ShortOf (s t : Shown) (l : List Item) (bound part place units : ℕ) : Type 0 where
+pub record ShortOf (s t : Shown) (l : List Item) (bound : ℕ) (part : Part) (place units : ℕ) : Type 0 where
   pub item : Item
   pub stops : Stops s l item t
   pub above : free t < price t item.fn
@@ -32,9 +34,9 @@ pub record ShortOf (s t : Shown) (l : List Item) (bound part place units : ℕ) 
 -- what a call was: a step by the rules, and more where it was refused for room or handed out a trace
 pub record Fair (e : Event) : Type 0 where
   pub step : Step e.before e.call e.after
-  pub load_room : (x a p : List ℕ) (q l u : ℕ) → e.call ≡ load x a p (Err (fault.Room q l u))
+  pub load_room : (x a p : List ℕ) (q : Part) (l u : ℕ) → e.call ≡ load x a p (Err (fault.Room q l u))
       → (m : Model) × Checked e.before.store.vars x a p (Ok m) × ShortOf e.before.store e.after.store (load_list m) (load_bound m (length a) (length p)) q l u
-  pub advance_room : (q l u : ℕ) → e.call ≡ advance (Err (fault.Room q l u))
+  pub advance_room : (q : Part) (l u : ℕ) → e.call ≡ advance (Err (fault.Room q l u))
       → (m : Model) × (j : ℕ) × (e.before.state ≡ loaded m j) × ShortOf e.before.store e.after.store (advance_list m j) (advance_bound m) q l u
   pub traced : (x y x' y' : List ℕ) → e.call ≡ trace x y x' y' (Ok tt)
       → (m : Model) × (j : ℕ) × (e.before.state ≡ loaded m j) × Unsafe (system m) j × Breaking (system m) j (λ t. slice_index x' t) (λ t. slice_index y' t)

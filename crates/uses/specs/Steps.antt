@@ -2,6 +2,7 @@
 use Rattle.std.specs.Prelude.{◌≡◌, ℕ, Bool, ◌⊎◌, List, Err, Result}
 use Rattle.store.specs.Meaning.{Shown}
 use Rattle.making.specs.declared.fault.Fault.{Fault}
+use Rattle.description.specs.declared.part.Part.{Part}
 use Rattle.making.specs.declared.fault.Fault.TheVariants as fault
 use Rattle.making.specs.Making.{Item, Runs, Stops}
 use Rattle.making.specs.Loads.{load_list, advance_list}
@@ -21,8 +22,8 @@ pub data Alike : Call → Call → Type 0 where
 
 -- the call was refused for room
 pub data Full : Call → Type 0 where
-  full_load : (x a p : List ℕ) (q l u : ℕ) → Full (load x a p (Err (fault.Room q l u)))
-  full_advance : (q l u : ℕ) → Full (advance (Err (fault.Room q l u)))
+  full_load : (x a p : List ℕ) (q : Part) (l u : ℕ) → Full (load x a p (Err (fault.Room q l u)))
+  full_advance : (q : Part) (l u : ℕ) → Full (advance (Err (fault.Room q l u)))
 
 -- after any use, a call with its arguments has one answer, hands back one pair of arrays and leaves one state, unless it is refused for room
 abbrev pub Determined : Type 0

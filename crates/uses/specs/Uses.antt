@@ -1,6 +1,8 @@
 -- The rules of the five calls, and a use of a session.
 use Rattle.std.specs.Prelude.{◌≡◌, ℕ, suc, ◌^◌, ◌<◌, ◌≤◌, List, [], ◌∷◌, length, Ok, Err, ◌≢◌}
 use Rattle.store.specs.Meaning.{Shown, free}
+use Rattle.description.specs.Checks.{Checked}
+use Rattle.description.specs.declared.fault.Fault.{Fault as Misdescription}
 use Rattle.making.specs.declared.fault.Fault.{Fault}
 use Rattle.making.specs.declared.fault.Fault.TheVariants as fault
 use Rattle.making.specs.Making.{Item, Runs, Stops}
@@ -9,7 +11,7 @@ use Rattle.making.specs.Ends.{located}
 use Rattle.runs.specs.Models.{Model, system}
 use Rattle.runs.specs.Search.{unsafe, safe, open_yet, verdict, Trace}
 use Rattle.runs.specs.Search as search
-use Rattle.uses.specs.Calls.{State, empty, loaded, told, Call, load, advance, ask, trace, inside, Stand, stand, Event, event, written, Checked}
+use Rattle.uses.specs.Calls.{State, empty, loaded, told, Call, load, advance, ask, trace, inside, Stand, stand, Event, event, written}
 
 -- the refusal of a call of the list for room
 abbrev pub room : Item → Shown → Fault
@@ -18,7 +20,8 @@ room x t = located x (free t)
 -- one call with its answer, and what it leaves
 pub data Step : Stand → Call → Stand → Type 0 where
   load_twice : {s : Shown} {m : Model} {j : ℕ} {x a p : List ℕ} → Step (stand (loaded m j) s) (load x a p (Err fault.Loaded)) (stand (loaded m j) s)
-  load_wrong : {s : Shown} {x a p : List ℕ} {e : Fault} → Checked s.vars x a p (Err e) → Step (stand empty s) (load x a p (Err e)) (stand empty s)
+  load_wrong : {s : Shown} {x a p : List ℕ} {e : Misdescription} → Checked s.vars x a p (Err e)
+      → Step (stand empty s) (load x a p (Err (fault.Description e))) (stand empty s)
   load_full : {s t : Shown} {x a p : List ℕ} {m : Model} {y : Item} → Checked s.vars x a p (Ok m) → Stops s (load_list m) y t
       → Step (stand empty s) (load x a p (Err (room y t))) (stand empty t)
   loads : {s t : Shown} {x a p : List ℕ} {m : Model} → Checked s.vars x a p (Ok m) → Runs s (load_list m) t

@@ -1,43 +1,29 @@
-use Rattle.std.proofs.Common.{◌≡◌, ◌^◌, ◌<◌, ◌≤◌, not, Ok, sym, refl, ap, subst}
-use Rattle.engine.specs.Keeping.{World, world}
-use Rattle.engine.proofs.Insides.{Asked, when_empty, when_not_safe, when_high, when_told, when_refused}
+use Rattle.std.proofs.Common.{◌<◌, ◌≤◌, not, Ok, sym, subst}
+use Rattle.store.specs.Meaning.{Shown}
+use Rattle.uses.specs.Calls.{inside}
+use Rattle.uses.specs.Uses.{inside_empty}
+use Rattle.engine.specs.Keeping.{world, Next}
+use Rattle.engine.proofs.Insides.{when_not_safe, when_high, when_told, when_refused}
+use Rattle.engine.proofs.Keepings.{stays_none}
 use Rattle.engine.proofs.session.Session.inside.Goals as goal
 
-pub returns-in-Empty : goal.returns-in-Empty
-returns-in-Empty g c = record {
-  next = λ h st u k. when_empty h st (world g.S.Store.shows c.args.self.now) c.args.q u k c.in-Empty.is;
-  same = refl;
-}
+pub returns-in_default-clause-next : goal.returns-in_default-clause-next
+returns-in_default-clause-next g c = stays_none (world g.S.Store.shows c.args.self.now) _ c.in_default.is inside_empty
 
-pub returns-in_default : goal.returns-in_default
-returns-in_default g c = record {
-  next = λ h st u k. when_not_safe h st (world g.S.Store.shows c.args.self.now) c.args.q u k c.in_default.not-Empty c.in_default.not-Safe;
-  same = refl;
-}
+pub returns-in_default-verdict-clause-next : goal.returns-in_default-verdict-clause-next
+returns-in_default-verdict-clause-next g c = when_not_safe (world g.S.Store.shows c.args.self.now) c.in-Some.search c.in-Some.is c.args.q c.in_default-verdict.not-Safe
 
-pub returns-then-q-power : goal.returns-then-q-power
-returns-then-q-power g c = record {
-  next = λ h st u k. when_high h st (world g.S.Store.shows c.args.self.now) c.args.q u k c.in-Safe.is (subst (λ i. i ≤ c.args.q) c.power.ensures c.if-q-power.true);
-  same = refl;
-}
+pub returns-then-q-power-clause-next : goal.returns-then-q-power-clause-next
+returns-then-q-power-clause-next g c = when_high (world g.S.Store.shows c.args.self.now) c.in-Some.search c.in-Some.is c.args.q c.in-Safe.is (subst (λ i. i ≤ c.args.q) c.power.ensures c.if-q-power.true)
 
-pub returns-in_err-held : goal.returns-in_err-held
-returns-in_err-held g c =
+pub returns-in_err-held-clause-next : goal.returns-in_err-held-clause-next
+returns-in_err-held-clause-next g c =
     let w = world g.S.Store.shows c.args.self.now in
-    let l : c.args.q < 2 ^ w.inner.parts.n = subst (λ i. c.args.q < i) c.power.ensures c.if-q-power.false in
-    record {
-      next = λ h st u k. absurd (when_refused h st w c.args.q c.in_err-held.field-0.0 k c.in-Safe.is l c.in_err-held.ensures.tells);
-      same = ap {B = World} (λ s. record { store = s; inner = w.inner }) c.truth.ensures.same;
-    }
+    subst (λ (t : Shown). Next w (inside c.args.q c.from_residual.result) (record { store = t; search = w.search })) (sym c.truth.ensures.same)
+    (when_refused w c.in-Some.search c.in-Some.is c.args.q c.in-Safe.is (subst (λ i. c.args.q < i) c.power.ensures c.if-q-power.false) c.truth.result c.truth.ensures.tells _ c.in_err-held.was c.from_residual.result)
 
-pub returns : goal.returns
-returns g c =
+pub returns-clause-next : goal.returns-clause-next
+returns-clause-next g c =
     let w = world g.S.Store.shows c.args.self.now in
-    let l : c.args.q < 2 ^ w.inner.parts.n = subst (λ i. c.args.q < i) c.power.ensures c.if-q-power.false in
-    let v : World = record { store = g.S.Store.shows c.truth.new.store; inner = w.inner } in
-    let e : v ≡ w = ap {B = World} (λ s. record { store = s; inner = w.inner }) c.truth.ensures.same in
-    record {
-      next = λ h st u k. subst (Asked h st w c.args.q (Ok (not c.in_ok-held.held))) (sym e)
-          (when_told h st w c.args.q c.in_ok-held.held u k c.in-Safe.is l c.in_ok-held.ensures.tells);
-      same = e;
-    }
+    subst (λ (t : Shown). Next w (inside c.args.q (Ok (not c.in_ok-held.held))) (record { store = t; search = w.search })) (sym c.truth.ensures.same)
+    (when_told w c.in-Some.search c.in-Some.is c.args.q c.in-Safe.is (subst (λ i. c.args.q < i) c.power.ensures c.if-q-power.false) c.truth.result c.truth.ensures.tells c.in_ok-held.held c.in_ok-held.was)

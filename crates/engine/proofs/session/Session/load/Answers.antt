@@ -1,47 +1,33 @@
-use Rattle.std.proofs.Common.{refl}
+use Rattle.std.proofs.Common.{sym, ◌∙◌}
+use Rattle.making.specs.declared.fault.Fault.TheVariants.{Description}
 use Rattle.engine.specs.Keeping.{world}
-use Rattle.engine.proofs.Advances.{over}
-use Rattle.engine.proofs.Keepings.{never}
-use Rattle.engine.proofs.Loads.{handed_back, when_twice, when_wrong, when_full, when_done}
+use Rattle.engine.proofs.Keepings.{is_there, not_there, handed_on}
+use Rattle.engine.proofs.Loads.{when_twice, when_wrong, when_full, when_done}
 use Rattle.engine.proofs.session.Session.load.Goals as goal
 
-pub returns-in_default : goal.returns-in_default
-returns-in_default g c = record {
-  next = λ h st u k. when_twice h _ _ _ st (world g.S.Store.shows c.args.self.now) u k c.in_default.not-Empty;
-  refused = λ _. refl;
-}
+pub returns-then-is_some-clause-next : goal.returns-then-is_some-clause-next
+returns-then-is_some-clause-next g c =
+    let p = is_there c.args.self.now.search (sym c.is_some.ensures ∙ c.if-is_some.true) in
+    when_twice _ _ _ (world g.S.Store.shows c.args.self.now) p.0 p.1
 
-pub returns-in_err-described : goal.returns-in_err-described
-returns-in_err-described g c = record {
-  next = λ h st u k.
-      let w = world g.S.Store.shows c.args.self.now in
-      let t = g.S.Store.shows c.figures-width.new.self in
-      let e = c.in_err-described.field-0.0 in
-      handed_back h _ _ _ c.from_residual.result e st w (over w t) c.from_residual.ensures.1
-      (when_wrong h _ _ _ w t c.figures-width.ensures.same c.figures-width.result c.figures-width.ensures.told st e u k c.in-Empty.is c.in_err-described.ensures);
-  refused = λ _. refl;
-}
+pub returns-in_err-described-clause-next : goal.returns-in_err-described-clause-next
+returns-in_err-described-clause-next g c =
+    let w = world g.S.Store.shows c.args.self.now in
+    let e = not_there c.args.self.now.search (sym c.is_some.ensures ∙ c.if-is_some.false) in
+    rw (handed_on c.from_residual.result (Description c.in_err-described.field-0.0) c.from_residual.ensures.1)
+    (when_wrong _ _ _ w e _ c.figures-width.ensures.same c.figures-width.result c.figures-width.ensures.told c.in_err-described.field-0.0 c.in_err-described.ensures)
 
-pub returns-in_err-built : goal.returns-in_err-built
-returns-in_err-built g c = record {
-  next = λ h st u k.
-      let w = world g.S.Store.shows c.args.self.now in
-      let t = g.S.Store.shows c.figures-width.new.self in
-      let v = g.S.Store.shows c.build.new.store in
-      let e = c.in_err-built.field-0.0 in
-      handed_back h _ _ _ c.from_residual-in_err-built.result e st w (over w v) c.from_residual-in_err-built.ensures.1
-      (when_full h _ _ _ w t c.figures-width.ensures.same c.figures-width.result c.figures-width.ensures.told
-      c.in_ok-described.described c.in_ok-described.ensures v st e u k c.in-Empty.is c.in_err-built.ensures);
-  refused = λ _. refl;
-}
+pub returns-in_err-built-clause-next : goal.returns-in_err-built-clause-next
+returns-in_err-built-clause-next g c =
+    let w = world g.S.Store.shows c.args.self.now in
+    let e = not_there c.args.self.now.search (sym c.is_some.ensures ∙ c.if-is_some.false) in
+    rw (handed_on c.from_residual-in_err-built.result c.in_err-built.field-0.0 c.from_residual-in_err-built.ensures.1)
+    (when_full _ _ _ w e _ c.figures-width.ensures.same c.figures-width.result c.figures-width.ensures.told
+    c.in_ok-described.described c.in_ok-described.ensures _ c.in_err-built.field-0.0 c.in_err-built.ensures)
 
-pub returns : goal.returns
-returns g c = record {
-  next = λ h st u k.
-      let w = world g.S.Store.shows c.args.self.now in
-      let t = g.S.Store.shows c.figures-width.new.self in
-      let v = g.S.Store.shows c.build.new.store in
-      when_done h _ _ _ w t c.figures-width.ensures.same c.figures-width.result c.figures-width.ensures.told
-      c.in_ok-described.described c.in_ok-described.ensures v st c.in_ok-built.built _ u k c.in-Empty.is c.begin-inner.ensures c.in_ok-built.ensures;
-  refused = λ e. never (cc);
-}
+pub returns-clause-next : goal.returns-clause-next
+returns-clause-next g c =
+    let w = world g.S.Store.shows c.args.self.now in
+    let e = not_there c.args.self.now.search (sym c.is_some.ensures ∙ c.if-is_some.false) in
+    when_done _ _ _ w e _ c.figures-width.ensures.same c.figures-width.result c.figures-width.ensures.told
+    c.in_ok-described.described c.in_ok-described.ensures _ c.in_ok-built.built _ c.begin-search.ensures c.in_ok-built.ensures

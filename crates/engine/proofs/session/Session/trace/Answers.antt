@@ -1,50 +1,44 @@
-use Rattle.std.proofs.Common.{◌≡◌, ◌+◌, get_or, Ok, sym, refl, ap, subst, ⊎_elim, arith}
-use Rattle.uses.specs.Calls.{written}
-use Rattle.engine.specs.Keeping.{World, world}
-use Rattle.engine.proofs.Handing.{Handed, when_empty, when_not_unsafe, when_short, when_walked, when_lost}
+use Rattle.std.proofs.Common.{◌+◌, ◌++◌, drop, Ok, Err, sym, ◌∙◌, subst, arith}
+use Rattle.arrayvec.specs.ArrayVec.{array_vec_len}
+use Rattle.store.specs.Meaning.{Shown}
+use Rattle.making.specs.declared.fault.Fault.TheVariants as fault
+use Rattle.uses.specs.Calls.{trace}
+use Rattle.uses.specs.Uses.{trace_empty}
+use Rattle.engine.specs.Keeping.{world, Next}
+use Rattle.engine.proofs.Handing.{when_not_unsafe, when_short, when_walked, when_lost}
+use Rattle.engine.proofs.Keepings.{stays_none}
 use Rattle.engine.proofs.session.Session.trace.Goals as goal
 
-pub returns-in-Empty : goal.returns-in-Empty
-returns-in-Empty g c = record {
-  next = λ h st u k. when_empty h st (world g.S.Store.shows c.args.self.now) c.args.states.now c.args.inputs.now u k c.in-Empty.is;
-  same = refl;
-}
+pub returns-in_default-clause-next : goal.returns-in_default-clause-next
+returns-in_default-clause-next g c = stays_none (world g.S.Store.shows c.args.self.now) _ c.in_default.is trace_empty
 
-pub returns-in_default : goal.returns-in_default
-returns-in_default g c = record {
-  next = λ h st u k. when_not_unsafe h st (world g.S.Store.shows c.args.self.now) c.args.states.now c.args.inputs.now u k c.in_default.not-Empty c.in_default.not-Unsafe;
-  same = refl;
-}
+pub returns-in_default-verdict-clause-next : goal.returns-in_default-verdict-clause-next
+returns-in_default-verdict-clause-next g c = when_not_unsafe (world g.S.Store.shows c.args.self.now) c.in-Some.search c.in-Some.is c.args.states.now c.args.inputs.now c.in_default-verdict.not-Unsafe
 
-pub returns-then-states-entries : goal.returns-then-states-entries
-returns-then-states-entries g c = record {
-  next = λ h st u k. when_short h st (world g.S.Store.shows c.args.self.now) c.args.states.now c.args.inputs.now c.in-Unsafe.field-0 u k c.in-Unsafe.is
-      (λ lx ly. ⊎_elim (λ b. absurd (omega arith)) (λ b. absurd (omega arith)) c.then-states-entries.either);
-  same = refl;
-}
-
-pub returns-in_err-path : goal.returns-in_err-path
-returns-in_err-path g c =
+pub returns-then-min-entries-clause-next : goal.returns-then-min-entries-clause-next
+returns-then-min-entries-clause-next g c =
     let w = world g.S.Store.shows c.args.self.now in
-    record {
-      next = λ h st u k. absurd (when_lost h st w c.in-Unsafe.field-0 c.in_err-path.field-0.0 u k c.in-Unsafe.is c.in_err-path.ensures.walks);
-      same = ap {B = World} (λ s. record { store = s; inner = w.inner }) c.walk.ensures.same;
-    }
-
-pub returns : goal.returns
-returns g c =
-    let w = world g.S.Store.shows c.args.self.now in
-    let p = c.in_ok-path.path in
     let x = c.args.states.now in
     let y = c.args.inputs.now in
-    let n = w.inner.count + 1 in
-    let v : World = record { store = g.S.Store.shows c.walk.new.store; inner = w.inner } in
-    let e : v ≡ w = ap {B = World} (λ s. record { store = s; inner = w.inner }) c.walk.ensures.same in
-    record {
-      next = λ h st u k.
-          let a = when_walked h st w x y c.in-Unsafe.field-0 p u k c.in-Unsafe.is c.if-states-entries.false c.if-inputs-entries.false c.in_ok-path.ensures.walks in
-          let b = subst (λ s. Handed h st w x y s (written n (λ t. get_or p.inputs t 0) y) (Ok tt) w) (sym c.write_over.ensures) a in
-          let d = subst (λ s. Handed h st w x y c.write_over.new.to s (Ok tt) w) (sym c.write_over-2.ensures) b in
-          subst (Handed h st w x y c.write_over.new.to c.write_over-2.new.to (Ok tt)) (sym e) d;
-      same = e;
-    }
+    subst (λ n. Next w (trace x y x y (Err (fault.Short (n + 1)))) w) (sym c.len-entries.ensures.value)
+    (when_short w c.in-Some.search c.in-Some.is x y c.in-Unsafe.field-0 c.in-Unsafe.is (λ lx ly. absurd (omega arith)))
+
+pub returns-in_err-path-clause-next : goal.returns-in_err-path-clause-next
+returns-in_err-path-clause-next g c =
+    let w = world g.S.Store.shows c.args.self.now in
+    let x = c.args.states.now in
+    let y = c.args.inputs.now in
+    subst (λ (t : Shown). Next w (trace x y x y c.from_residual.result) (record { store = t; search = w.search })) (sym c.walk.ensures.same)
+    (when_lost w c.in-Some.search c.in-Some.is x y c.in-Unsafe.field-0 c.in-Unsafe.is c.walk.result c.walk.ensures.walks _ c.in_err-path.was x y c.from_residual.result)
+
+pub returns-clause-next : goal.returns-clause-next
+returns-clause-next g c =
+    let w = world g.S.Store.shows c.args.self.now in
+    let x = c.args.states.now in
+    let y = c.args.inputs.now in
+    let k = c.in-Some.search in
+    let p = c.in_ok-path.path in
+    let n = c.len-entries.ensures.value in
+    let ready = when_walked w k c.in-Some.is x y c.in-Unsafe.field-0 c.in-Unsafe.is c.walk.result c.walk.ensures.walks p c.in_ok-path.was c.in_ok-path.ensures.covers (omega arith) (omega arith) in
+    let at_store = subst (λ (t : Shown). Next w (trace x y (p.states.items ++ drop (array_vec_len k.earlier + 1) x) (p.inputs.items ++ drop (array_vec_len k.earlier + 1) y) (Ok tt)) (record { store = t; search = w.search })) (sym c.walk.ensures.same) ready in
+    rw n (rw (c.copy_from_slice.ensures.after ∙ c.as_slice.ensures.value) (rw (c.copy_from_slice-2.ensures.after ∙ c.as_slice-2.ensures.value) at_store))

@@ -1,20 +1,23 @@
-use Rattle.std.proofs.Common.{◌∷◌, sym, refl, subst}
-use Rattle.uses.specs.Calls.{stand, event, ask}
+use Rattle.std.proofs.Common.{sym, subst}
+use Rattle.uses.specs.Calls.{stand}
 use Rattle.uses.specs.Promise.{Promise}
-use Rattle.uses.specs.Uses.{Use, went_on, asks}
 use Rattle.uses.proofs.Promises.{promised}
 use Rattle.engine.specs.Keeping.{world}
-use Rattle.engine.proofs.Keepings.{verdict_told}
+use Rattle.engine.proofs.Keepings.{told_none, told_some, asked}
 use Rattle.engine.proofs.session.Session.verdict.Goals as goal
 
-pub returns : goal.returns
-returns g c = record {
-  promise = λ h st u k.
-      let w = world g.S.Store.shows c.args.self.now in
-      subst (λ r. Promise h st r) (sym (verdict_told st w k)) (promised h (stand st w.store) u);
-  next = λ h st u k.
-      let w = world g.S.Store.shows c.args.self.now in
-      let x = stand st w.store in
-      (st, subst (λ a. Use (event x (ask a) x ∷ h) x) (sym (verdict_told st w k)) (went_on u asks), k);
-  same = refl;
-}
+pub returns-in-Some-clause-promise : goal.returns-in-Some-clause-promise
+returns-in-Some-clause-promise g c h st u k =
+    let w = world g.S.Store.shows c.args.self.now in
+    subst (λ r. Promise h st r) (sym (told_some st w c.in-Some.search c.in-Some.is k)) (promised h (stand st w.store) u)
+
+pub returns-in-Some-clause-next : goal.returns-in-Some-clause-next
+returns-in-Some-clause-next g c = asked (world g.S.Store.shows c.args.self.now) _ (λ st k. told_some st _ c.in-Some.search c.in-Some.is k)
+
+pub returns-in-None-clause-promise : goal.returns-in-None-clause-promise
+returns-in-None-clause-promise g c h st u k =
+    let w = world g.S.Store.shows c.args.self.now in
+    subst (λ r. Promise h st r) (sym (told_none st w c.in-None.is k)) (promised h (stand st w.store) u)
+
+pub returns-in-None-clause-next : goal.returns-in-None-clause-next
+returns-in-None-clause-next g c = asked (world g.S.Store.shows c.args.self.now) _ (λ st k. told_none st _ c.in-None.is k)

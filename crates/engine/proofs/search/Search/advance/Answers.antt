@@ -1,0 +1,26 @@
+use Rattle.std.proofs.Common.{◌≡◌, refl, sym, subst, ◌∙◌, arith}
+use Rattle.std.proofs.lemmas.Bool.{eqb-true}
+use Rattle.arrayvec.specs.ArrayVec.{array_vec_len}
+use Rattle.uses.specs.Calls.{advance}
+use Rattle.engine.specs.Keeping.{searching, Next}
+use Rattle.engine.proofs.Advances.{when_settled, when_many, when_full, when_done}
+use Rattle.engine.proofs.Keepings.{handed_on}
+use Rattle.engine.proofs.search.Search.advance.Goals as goal
+
+pub returns-in_default : goal.returns-in_default
+returns-in_default g c = record { next = when_settled (searching (g.S.Store.shows c.args.store.now) c.args.self.now) c.args.self.now refl c.in_default.not-Open; refused = λ _. refl }
+
+pub returns-then-is_full-clause-next : goal.returns-then-is_full-clause-next
+returns-then-is_full-clause-next g c =
+    let e : array_vec_len c.args.self.now.earlier ≡ 256 = eqb-true _ _ (sym c.is_full.ensures.value ∙ c.if-is_full.true) in
+    when_many (searching (g.S.Store.shows c.args.store.now) c.args.self.now) c.args.self.now refl (omega arith)
+
+pub returns-in_err-found-clause-next : goal.returns-in_err-found-clause-next
+returns-in_err-found-clause-next g c =
+    let w = searching (g.S.Store.shows c.args.store.now) c.args.self.now in
+    subst (λ r. Next w (advance r) (searching (g.S.Store.shows c.step.new.store) c.args.self.now)) (sym (handed_on c.from_residual.result c.in_err-found.field-0.0 c.from_residual.ensures.1))
+    (when_full w c.args.self.now refl c.in-Open.is (g.S.Store.shows c.step.new.store) c.in_err-found.field-0.0 c.in_err-found.ensures)
+
+pub returns-clause-next : goal.returns-clause-next
+returns-clause-next g c = when_done (searching (g.S.Store.shows c.args.store.now) c.args.self.now) c.args.self.now refl c.in-Open.is (g.S.Store.shows c.step.new.store) c.in_ok-found.found _
+    refl c.push.ensures.items refl refl c.in_ok-found.ensures
