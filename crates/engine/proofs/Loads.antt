@@ -12,16 +12,14 @@ use Rattle.making.specs.declared.fault.Fault.TheVariants as fault
 use Rattle.making.specs.declared.parts.Built.{Built}
 use Rattle.making.specs.declared.parts.Parts.{Parts}
 use Rattle.making.specs.Ends.{Ends, made, stuck, located}
-use Rattle.making.specs.Loads.{load_list, Kept, Loaded}
+use Rattle.making.specs.Loads.{load_list, Loaded}
 use Rattle.making.specs.Making.{Means}
 use Rattle.making.specs.Promises.{Builds}
 use Rattle.runs.specs.Functions.{both}
-use Rattle.runs.specs.Models.{Model, system, Valid}
+use Rattle.runs.specs.Models.{Model, Valid}
 use Rattle.runs.specs.Search.{stable, unsafe, open_yet, verdict_by}
-use Rattle.runs.specs.Search as search
-use Rattle.runs.specs.Valuations.{claim_fn, next_fn, init_fn, set_fn}
+use Rattle.runs.specs.Valuations.{claim_fn, init_fn, set_fn}
 use Rattle.runs.proofs.Models.{functions_exact, descriptions_valid}
-use Rattle.uses.specs.declared.verdict.Verdict.{Verdict}
 use Rattle.uses.specs.declared.verdict.Verdict.TheVariants as verdict
 use Rattle.uses.specs.Calls.{empty, loaded, tell, told, load, stand, Checked, right}
 use Rattle.uses.specs.Uses.{Step, load_twice, load_wrong, load_full, loads}

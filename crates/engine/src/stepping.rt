@@ -6,8 +6,8 @@ ghost use Rattle.engine.specs.Questions.{Tells, GoesTo, Leads, Faults, Begins};
 use super::search::Search;
 use super::values::spread;
 use making::fault::Fault;
-use store::refusal::Refusal;
 use store::Store;
+use store::refusal::Refusal;
 
 impl Search {
     // The truth of function a at a state and an input.
@@ -64,17 +64,14 @@ impl Search {
         ensures same { S.Store.shows store.new ≡ S.Store.shows store.old }
         ensures faults { Faults (S.Store.shows store.old) self.now.parts q v result }
     {
-        Ok(self.truth(store, self.parts.assumed, q, v)?
-            && !self.truth(store, self.parts.property, q, v)?)
+        Ok(
+            self.truth(store, self.parts.assumed, q, v)?
+                && !self.truth(store, self.parts.property, q, v)?,
+        )
     }
 
     // Whether q is an initial state in a set.
-    pub(crate) fn begins_in<S: Store>(
-        &self,
-        store: &mut S,
-        set: u16,
-        q: u16,
-    ) -> Result<bool, Fault>
+    pub(crate) fn begins_in<S: Store>(&self, store: &mut S, set: u16, q: u16) -> Result<bool, Fault>
         ensures same { S.Store.shows store.new ≡ S.Store.shows store.old }
         ensures begins { Begins (S.Store.shows store.old) self.now.parts set q result }
     {

@@ -25,10 +25,18 @@ impl Search {
         let inputs_count = power(self.parts.m);
         let mut states = ArrayVec::new();
         let mut inputs = ArrayVec::new();
-        let mut q = smallest(store, states_count, |store, q| self.begins_in(store, self.set, q))?;
+        let mut q = smallest(
+            store,
+            states_count,
+            |store, q| self.begins_in(store, self.set, q),
+        )?;
         states.push(q);
         for set in self.earlier.iter().rev() {
-            let v = smallest(store, inputs_count, |store, v| self.leads_into(store, *set, q, v))?;
+            let v = smallest(
+                store,
+                inputs_count,
+                |store, v| self.leads_into(store, *set, q, v),
+            )?;
             inputs.push(v);
             q = self.next_state(store, q, v)?;
             states.push(q);

@@ -13,7 +13,6 @@ use Rattle.runs.specs.Verdicts.{Unsafe, Meaning}
 use Rattle.runs.specs.Models.{Model, system}
 use Rattle.runs.proofs.Verdicts.{verdicts}
 use Rattle.runs.proofs.Traces as runs
-use Rattle.uses.specs.declared.verdict.Verdict.TheVariants as verdict
 use Rattle.uses.specs.Calls.{State, empty, loaded, tell, told, Call, load, advance, trace, Stand, Event, event, Checked, right}
 use Rattle.uses.specs.Uses.{Step, load_wrong, load_full, advance_full, traces, Use, begun, went_on}
 use Rattle.uses.specs.Promise.{load_bound, advance_bound, ShortOf, Fair, Every, none, each, Meant, Says, Promised}

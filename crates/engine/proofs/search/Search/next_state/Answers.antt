@@ -1,4 +1,4 @@
-use Rattle.std.proofs.Common.{◌≡◌, ℕ, suc, ◌+◌, ◌*◌, ◌/◌, ◌^◌, ◌<◌, ◌≤◌, List, [], ◌∷◌, ◌++◌, length, take, get_or, sym, refl, ap, ◌∙◌, subst, arith}
+use Rattle.std.proofs.Common.{◌≡◌, ◌+◌, ◌*◌, ◌/◌, ◌^◌, ◌<◌, [], ◌∷◌, length, get_or, sym, refl, ap, ◌∙◌, subst, arith}
 use Rattle.std.proofs.Math.Nat.{div-eq_of_lt}
 use Rattle.std.proofs.lemmas.List.{append-nil, length-take, get_or-take}
 use Rattle.store.specs.Fun.{bit}
@@ -55,7 +55,12 @@ overflow_add-next g c = let p = (fits g (goal.at.overflow_add-next g c).In-Some)
 pub loop-number-preserved : goal.loop-number-preserved
 loop-number-preserved g c =
     let d = c.loop-number.invariant.3 in
-    let s = c.in-Some.ensures.steps in
-    (tt, tt, c.truth.ensures.same ∙ c.loop-number.invariant.2, (c.in-Some.number.now ∷ d.0, back_one _ _ d.0 _ _ s d.1, more_below _ _ _ d.2), λ m h lq lv.
-      ap (λ x. 2 * x + bool_byte c.in_ok-next.field-0) (c.loop-number.invariant.4 m h lq lv ∙ ap (λ n. (system m).next c.args.q c.args.v / 2 ^ n) (one_less _ _ d.0 _ c.in-Some.number.now s d.1))
-      ∙ more _ _ c.in_ok-next.field-0 (sym c.in_ok-next.was ∙ told g (goal.at.loop-number-preserved g c).In-Some m h lq lv _ c.truth.ensures.tells))
+    let s = c.in-Some.ensures.steps in (
+      tt,
+      tt,
+      c.truth.ensures.same ∙ c.loop-number.invariant.2,
+      (c.in-Some.number.now ∷ d.0, back_one _ _ d.0 _ _ s d.1, more_below _ _ _ d.2),
+      λ m h lq lv.
+          ap (λ x. 2 * x + bool_byte c.in_ok-next.field-0) (c.loop-number.invariant.4 m h lq lv ∙ ap (λ n. (system m).next c.args.q c.args.v / 2 ^ n) (one_less _ _ d.0 _ c.in-Some.number.now s d.1))
+          ∙ more _ _ c.in_ok-next.field-0 (sym c.in_ok-next.was ∙ told g (goal.at.loop-number-preserved g c).In-Some m h lq lv _ c.truth.ensures.tells),
+    )

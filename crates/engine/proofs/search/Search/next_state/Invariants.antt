@@ -13,4 +13,4 @@ invariant-loop-number g l =
     × (g.S.Store.shows l.store ≡ g.S.Store.shows l.initial.store)
     × ((done : List _) × (rest ++ done ≡ take l.self.parts.n l.self.parts.nexts) × (l.next < 2 ^ length done))
     × ((m : Model) → Readable (g.S.Store.shows l.initial.store) m l.self.parts → State (system m) l.q → Input (system m) l.v
-        → l.next ≡ (system m).next l.q l.v / 2 ^ length rest)
+    → l.next ≡ (system m).next l.q l.v / 2 ^ length rest)

@@ -6,7 +6,6 @@ use Rattle.making.proofs.Placing.{placed_err, placed_ok, placed_made}
 use Rattle.making.proofs.Steps.{ends_before, ends_refused, broke}
 use Rattle.runs.specs.Models.{Model}
 use Rattle.runs.specs.Valuations.{back_fn}
-use Rattle.engine.specs.declared.search.Search.{Search}
 use Rattle.engine.specs.Advancing.{Ready}
 use Rattle.engine.proofs.Steps.{back_at, last_at, equal_at, lies, backed, settled, grown, met, still_open, now_unsafe, at_count}
 use Rattle.engine.proofs.search.Search.step.Goals as goal

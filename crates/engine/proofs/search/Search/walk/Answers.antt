@@ -1,4 +1,4 @@
-use Rattle.std.proofs.Common.{rules, ◌≡◌, ℕ, suc, ◌+◌, ◌-◌, ◌^◌, ◌<◌, ◌≤◌, length, List, [], ◌∷◌, ◌++◌, get_or, Ok, Result, sym, refl, ap, ◌∙◌, subst, add-one, true, arith}
+use Rattle.std.proofs.Common.{rules, ◌≡◌, ℕ, suc, ◌+◌, ◌-◌, ◌^◌, ◌<◌, length, [], ◌∷◌, ◌++◌, get_or, Ok, Result, sym, refl, ap, ◌∙◌, subst, add-one, true, arith}
 use Rattle.std.proofs.lemmas.List.{append-nil}
 use Rattle.making.specs.Making.{Means}
 use Rattle.making.specs.declared.fault.Fault.{Fault}
@@ -6,7 +6,6 @@ use Rattle.runs.specs.Models.{Model, system}
 use Rattle.runs.specs.Search.{initial_in, bad, leads_into, faulty, unsafe, verdict, Reached, Least, TraceTo, Trace}
 use Rattle.runs.specs.Systems.{State}
 use Rattle.runs.specs.Valuations.{set_fn}
-use Rattle.runs.specs.Verdicts.{Traces}
 use Rattle.runs.proofs.Traces.{traces}
 use Rattle.engine.specs.Keeping.{Sets}
 use Rattle.engine.specs.declared.search.Search.{Search}
@@ -31,13 +30,23 @@ returns-in_err-q-clause-walks g c m j h r e = absurd (lost _ _ _ (begins g (goal
 pub loop-set-init : goal.loop-set-init
 loop-set-init g c =
     let e = ap (λ i. i.iter.rest.now) c.into_iter-set-iterator.ensures.into_iter_gives ∙ ap (λ i. i.rest.now) c.rev-set-items.ensures.source ∙ c.iter.ensures.rest ∙ c.deref.ensures.0 in
-    let xs = c.push.ensures.items ∙ ap (λ l. l ++ c.in_ok-q.q ∷ []) c.new-states.ensures in
-    (tt, tt, refl, ([], append-nil _ ∙ e, ap length xs, ap length c.new-inputs.ensures, λ m j h r e.
-      rw xs (rw c.new-inputs.ensures (
-        refl,
-        starts (system m) j c.in_ok-q.q
-            (found _ _ _ (begins g (goal.at.loop-set-init g c).After-smallest m j (sets_still m j c.args.self.now _ _ (sym c.smallest.ensures.same) h)) c.in_ok-q.was),
-      ))))
+    let xs = c.push.ensures.items ∙ ap (λ l. l ++ c.in_ok-q.q ∷ []) c.new-states.ensures in (
+      tt,
+      tt,
+      refl,
+      (
+        [],
+        append-nil _ ∙ e,
+        ap length xs,
+        ap length c.new-inputs.ensures,
+        λ m j h r e.
+            rw xs (rw c.new-inputs.ensures (
+              refl,
+              starts (system m) j c.in_ok-q.q
+                  (found _ _ _ (begins g (goal.at.loop-set-init g c).After-smallest m j (sets_still m j c.args.self.now _ _ (sym c.smallest.ensures.same) h)) c.in_ok-q.was),
+            )),
+      ),
+    )
 
 -- in the loop, at the store where it stands
 module _ (g : _) (c : After-smallest-in-loop-set g) (m : Model) (j : ℕ) (h : Sets m j (g.S.Store.shows c.smallest.new.store) c.args.self.now) (r : Reached (system m) j) (e : verdict (system m) j ≡ unsafe j) where
@@ -106,17 +115,21 @@ loop-set-preserved g c =
     let b = (goal.at.loop-set-preserved g c).After-smallest-in-loop-set in
     let d = c.loop-set.invariant.3 in
     let xs = c.push-in-loop-set-2.ensures.items in
-    let ys = c.push-in-loop-set.ensures.items in
-    (tt, tt, c.next_state.ensures.same ∙ c.smallest-in-loop-set.ensures.same ∙ c.loop-set.invariant.2, (
-      c.in-Some.set.now ∷ d.0,
-      back_one _ _ d.0 _ _ c.in-Some.ensures.steps d.1,
-      c.push-in-loop-set-2.ensures.len ∙ ap (λ n. n + 1) d.2 ∙ add-one _,
-      c.push-in-loop-set.ensures.len ∙ ap (λ n. n + 1) d.3 ∙ add-one _,
-      λ m j h r e. rw xs (rw ys (
-        sym (state_next (system m) j (length d.0) c.loop-set.states.items c.loop-set.inputs.items d.2 d.3 (so_far g b m j h r e) c.in_ok-q-2.q),
-        goes_on g b m j h r e c.in_ok-v.v c.in_ok-v.was _ c.smallest-in-loop-set.ensures.same _ c.next_state.ensures.goes c.in_ok-q-2.q c.in_ok-q-2.was,
-      )),
-    ))
+    let ys = c.push-in-loop-set.ensures.items in (
+      tt,
+      tt,
+      c.next_state.ensures.same ∙ c.smallest-in-loop-set.ensures.same ∙ c.loop-set.invariant.2,
+      (
+        c.in-Some.set.now ∷ d.0,
+        back_one _ _ d.0 _ _ c.in-Some.ensures.steps d.1,
+        c.push-in-loop-set-2.ensures.len ∙ ap (λ n. n + 1) d.2 ∙ add-one _,
+        c.push-in-loop-set.ensures.len ∙ ap (λ n. n + 1) d.3 ∙ add-one _,
+        λ m j h r e. rw xs (rw ys (
+          sym (state_next (system m) j (length d.0) c.loop-set.states.items c.loop-set.inputs.items d.2 d.3 (so_far g b m j h r e) c.in_ok-q-2.q),
+          goes_on g b m j h r e c.in_ok-v.v c.in_ok-v.was _ c.smallest-in-loop-set.ensures.same _ c.next_state.ensures.goes c.in_ok-q-2.q c.in_ok-q-2.was,
+        )),
+      ),
+    )
 
 -- after the loop
 module _ (g : _) (c : After-smallest-2 g) (m : Model) (j : ℕ) (h : Sets m j (g.S.Store.shows c.args.store.now) c.args.self.now) (r : Reached (system m) j) (e : verdict (system m) j ≡ unsafe j) where

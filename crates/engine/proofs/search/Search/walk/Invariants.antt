@@ -12,6 +12,6 @@ invariant-loop-set g l =
     × (goal.iterator-loop-set g).is_finite l.set-iterator
     × (g.S.Store.shows l.store ≡ g.S.Store.shows l.initial.store)
     × ((done : List ℕ) × (l.set-iterator.iter.rest.now ++ done ≡ l.self.earlier.items)
-        × (array_vec_len l.states ≡ suc (length done)) × (array_vec_len l.inputs ≡ length done)
-        × ((m : Model) (j : ℕ) → Sets m j (g.S.Store.shows l.initial.store) l.self → Reached (system m) j → verdict (system m) j ≡ unsafe j
-            → (l.q ≡ get_or l.states.items (length done) 0) × TraceTo (system m) j (length done) (λ i. get_or l.states.items i 0) (λ i. get_or l.inputs.items i 0)))
+    × (array_vec_len l.states ≡ suc (length done)) × (array_vec_len l.inputs ≡ length done)
+    × ((m : Model) (j : ℕ) → Sets m j (g.S.Store.shows l.initial.store) l.self → Reached (system m) j → verdict (system m) j ≡ unsafe j
+    → (l.q ≡ get_or l.states.items (length done) 0) × TraceTo (system m) j (length done) (λ i. get_or l.states.items i 0) (λ i. get_or l.inputs.items i 0)))
