@@ -58,7 +58,11 @@ fn sizes_are_bounded(rt: HostRuntime) -> Result<(), Fail> {
         ([2, 0, 3], 3, Ok((2, 0, 3))),
         ([2, 0, 1024], 1024, Ok((2, 0, 1024))),
         ([2, 0, 1025], 1025, Err(Refusal::Size(Size::Gates))),
-        ([65535, 65535, 65535], 0, Err(Refusal::Size(Size::Registers))),
+        (
+            [65535, 65535, 65535],
+            0,
+            Err(Refusal::Size(Size::Registers)),
+        ),
     ];
     for (sizes, gates, told) in table {
         let file = plain(rt.alloc(), sizes, gates)?;
