@@ -1,15 +1,15 @@
 -- What the ghost fields of a diagram say.
-use Rattle.std.proofs.Common.{◌≡◌, ℕ, ◌+◌, ◌-◌, ◌<◌, ◌≤◌, length, sym, subst}
+use Rattle.std.proofs.Common.{◌≡◌, ℕ, zero, suc, ◌+◌, ◌<◌, ◌≤◌, length, Some, subst, arith}
 use Rattle.records.proofs.Contents.{entries_fit}
 use Rattle.store.specs.Meaning.{Lawful}
 use Rattle.nodes.specs.declared.Node.{Node}
-use Rattle.nodes.specs.Graph.{node, Sound}
+use Rattle.nodes.specs.Graph.{Sound}
 use Rattle.nodes.proofs.Laws.{lawful}
 use Rattle.nodes.proofs.Props.{sound_out}
 use Rattle.nodes.proofs.Reading.{Reads, reads}
 use Rattle.diagram.specs.declared.Diagram.{Diagram}
 use Rattle.diagram.specs.Remembered.{Right}
-use Rattle.diagram.specs.Shows.{listed, capacity, showing}
+use Rattle.diagram.specs.Shows.{listed, capacity, showing, node_under}
 use Rattle.diagram.proofs.Remembering.{right_out}
 
 pub sound_of : (d : Diagram) → Sound d.n (listed d)
@@ -28,6 +28,8 @@ few_of d = entries_fit d.nodes
 pub lawful_of : (d : Diagram) → Lawful (showing d)
 lawful_of d = lawful d.n (capacity d) d.some d.wide d.small (listed d) (few_of d) (sound_of d)
 
--- the node of a number that is no constant
-pub read_of : (d : Diagram) (a : ℕ) → a < length (listed d) + 2 → 2 ≤ a → (x : Node) → x ≡ node (listed d) (a - 2) → Reads d.n (listed d) a x
-read_of d a h inner x e = subst (Reads d.n (listed d) a) (sym e) (reads d.n (listed d) (sound_of d) a inner h)
+-- the node under a number
+pub read_of : (d : Diagram) (a : ℕ) → a < length (listed d) + 2 → (x : Node) → Some x ≡ node_under (listed d) a → Reads d.n (listed d) a x
+read_of d zero h x e = cc
+read_of d (suc zero) h x e = cc
+read_of d (suc (suc k)) h x e = subst (Reads d.n (listed d) (suc (suc k))) (cc) (reads d.n (listed d) (sound_of d) k (omega arith))

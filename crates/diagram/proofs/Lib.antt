@@ -1,5 +1,4 @@
 mod Grown
-mod Places
 mod Remembering
 mod Fields
 mod Tasks

@@ -1,11 +1,11 @@
 -- What a diagram remembers of a task, and that it stays right where a task was made.
 use Rattle.std.proofs.Common.{◌≡◌, ℕ, ◌^◌, ◌<◌, Some, Ok, sym, refl, ap, ◌∙◌, subst, arith}
+use Rattle.store.specs.Tasks.{Posed}
 use Rattle.nodes.specs.Graph.{top}
 use Rattle.nodes.proofs.Build.{built_there}
 use Rattle.diagram.specs.declared.Diagram.{Diagram}
 use Rattle.diagram.specs.declared.memo.Memo.{Memo}
-use Rattle.diagram.specs.declared.task.Task.{Task}
-use Rattle.diagram.specs.Asked.{Posed}
+use Rattle.store.specs.declared.task.Task.{Task}
 use Rattle.diagram.specs.Making.{Makes}
 use Rattle.diagram.specs.Remembered.{place, updated, Recalls, Settles, RightSlot, Right}
 use Rattle.diagram.specs.Shows.{listed, capacity, showing}

@@ -5,6 +5,7 @@ use mathlib.Core.Bool.{Bool-set}
 use mathlib.Core.Logic.{∥∥₁_elim}
 use native.Mathlib.Bridge.{le_prop}
 use Rattle.std.proofs.lemmas.Bool.{lt-ltb}
+use Rattle.store.specs.Tasks.{Posed}
 use Rattle.nodes.specs.declared.Node.{Node}
 use Rattle.nodes.specs.Graph.{Sound}
 use Rattle.nodes.specs.Growth.{Ext}
@@ -12,8 +13,7 @@ use Rattle.nodes.specs.Shows.{shown}
 use Rattle.nodes.proofs.Extend.{top_ext, value_ext}
 use Rattle.diagram.specs.declared.memo.Memo.{Memo}
 use Rattle.diagram.specs.declared.memo.Slot.{Slot}
-use Rattle.diagram.specs.declared.task.Task.{Task}
-use Rattle.diagram.specs.Asked.{Posed}
+use Rattle.store.specs.declared.task.Task.{Task}
 use Rattle.diagram.specs.Remembered.{place, blank, all_blank, slot, updated, Settles, RightSlot, Right}
 use Rattle.diagram.proofs.Grown.{grown_posed, grown_peak, grown_asked}
 

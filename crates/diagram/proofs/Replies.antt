@@ -1,20 +1,18 @@
 -- From what is made inside a diagram to what a store promises.
-use Rattle.std.proofs.Common.{◌≡◌, ℕ, ◌-◌, Bool, true, false, List, length, take, Ok, Err, Result, sym, refl, ap, ◌∙◌, subst, arith}
-use Rattle.std.proofs.lemmas.Bool.{both_ways}
+use Rattle.std.proofs.Common.{◌≡◌, ℕ, ◌-◌, List, length, take, Ok, Err, Result, sym, refl, ap, ◌∙◌, subst, arith}
 use Rattle.store.specs.Fun.{Fn}
 use Rattle.store.specs.Meaning.{Shown, Made}
-use Rattle.store.specs.Calls.{Answers, Reply}
+use Rattle.store.specs.Calls.{Answers}
 use Rattle.store.specs.declared.refusal.Refusal.{Refusal}
-use Rattle.store.specs.declared.refusal.Refusal.TheVariants.{Number, Variable}
 use Rattle.nodes.specs.declared.Node.{Node}
 use Rattle.nodes.specs.Shows.{shown}
 use Rattle.nodes.proofs.Extend.{ext_front}
 use Rattle.nodes.proofs.Laws.{made, too_dear}
 use Rattle.diagram.specs.declared.Diagram.{Diagram}
-use Rattle.diagram.specs.declared.full.Full.{Full}
+use Rattle.records.specs.declared.Full.{Full}
 use Rattle.diagram.specs.Making.{Making, Finishes}
 use Rattle.diagram.specs.Shows.{listed, capacity, showing}
-use Rattle.diagram.proofs.Fields.{sound_of, sound_at, few_of, lawful_of}
+use Rattle.diagram.proofs.Fields.{sound_of, sound_at, few_of}
 
 shown_path : (n m : ℕ) (xs ys : List Node) (b c : ℕ) → n ≡ m → xs ≡ ys → b ≡ c → shown n xs b ≡ shown m ys c
 shown_path n m xs ys b c p q r = λ i. shown (p i) (q i) (r i)
@@ -34,32 +32,3 @@ answered d e b v f (Err s) r used u m q =
       too_dear d.n (capacity d) d.some d.wide d.small (listed d) (few_of d) (sound_of d) v f m.outcome.1,
       λ i. m.capacity i - length (back i),
     )
-
--- the three ways of a making call
-module _ (d b : Diagram) (held within : Bool) (f : Fn) where
-  pub accepted : (r : Result ℕ Refusal) → held ≡ true → within ≡ true → Answers (showing d) (showing b) f r → Reply (showing d) (showing b) held within f r
-  accepted r h k a = record {
-    lawful = lawful_of d;
-    after = lawful_of b;
-    number = λ n. absurd (both_ways held n h);
-    variable = λ _ n. absurd (both_ways within n k);
-    answers = λ _ _. a;
-  }
-
-pub no_number : (d : Diagram) (held within : Bool) (f : Fn) → held ≡ false → Reply (showing d) (showing d) held within f (Err Number)
-no_number d held within f h = record {
-  lawful = lawful_of d;
-  after = lawful_of d;
-  number = λ _. (refl, refl);
-  variable = λ y _. absurd (both_ways held h y);
-  answers = λ y _. absurd (both_ways held h y);
-}
-
-pub no_variable : (d : Diagram) (held within : Bool) (f : Fn) → held ≡ true → within ≡ false → Reply (showing d) (showing d) held within f (Err Variable)
-no_variable d held within f h k = record {
-  lawful = lawful_of d;
-  after = lawful_of d;
-  number = λ n. absurd (both_ways held n h);
-  variable = λ _ _. (refl, refl);
-  answers = λ _ y. absurd (both_ways within k y);
-}

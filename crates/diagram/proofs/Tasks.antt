@@ -1,33 +1,23 @@
 -- The numbers of a task, and what they give it.
-use Rattle.std.proofs.Common.{◌≡◌, ℕ, ◌+◌, ◌<◌, ◌≤◌, Bool, true, false, not, ltb, length, Some, None, Option, refl, ap, ◌∙◌, subst, ap₂, inl, inr, arith}
+use Rattle.std.proofs.Common.{◌≡◌, ℕ, zero, suc, ◌+◌, ◌<◌, ◌≤◌, Bool, true, false, not, length, Some, None, Option, refl, ap, ◌∙◌, subst, ap₂, inl, inr, arith}
 use mir.Val.{bool_byte}
-use Rattle.std.proofs.lemmas.Bool.{ltb-true, lt-ltb, and_parts}
+use Rattle.std.proofs.lemmas.Bool.{ltb-true, lt-ltb}
+use Rattle.store.specs.Tasks.{applied, asked, Posed}
 use Rattle.store.specs.Fun.{bit, fix, fixed, Same}
 use Rattle.store.proofs.Bit.{bit_fixed_same, bit_fixed_other, fixed_lt, fixed_comm}
-use Rattle.store.proofs.Same.{same_sym}
 use Rattle.nodes.specs.Graph.{value, top}
 use Rattle.nodes.specs.Growth.{Ext, Halved, Splits}
 use Rattle.nodes.proofs.Values.{value_free}
 use Rattle.diagram.specs.declared.Diagram.{Diagram}
-use Rattle.diagram.specs.declared.task.Op.{Op}
-use Rattle.diagram.specs.declared.task.Task.{Task}
-use Rattle.diagram.specs.declared.task.Task.TheVariants.{Variable, Not, Both, Cofactor}
-use Rattle.diagram.specs.Asked.{asked, peak, Posed, Before}
+use Rattle.store.specs.declared.task.Op.{Op}
+use Rattle.store.specs.declared.task.Task.{Task}
+use Rattle.store.specs.declared.task.Task.TheVariants.{Variable, Not, Both, Cofactor}
+use Rattle.diagram.specs.Asked.{peak, Before}
 use Rattle.diagram.specs.Making.{Settled, HalvedTask}
-use Rattle.diagram.specs.Plain.{applied, Plain}
+use Rattle.diagram.specs.Plain.{Plain}
 use Rattle.diagram.specs.Shows.{listed, capacity, showing}
 use Rattle.diagram.proofs.Fields.{sound_of, read_of}
-use Rattle.diagram.proofs.Grown.{grown_posed, grown_peak, grown_asked}
-
--- the numbers of a task are held
-abbrev Number : Diagram → ℕ → Type 0
-Number d a = ltb a (length (listed d) + 2) ≡ true
-
-number : (d : Diagram) (a : ℕ) → Number d a → a < length (listed d) + 2
-number d a h = ltb-true a (length (listed d) + 2) h
-
-both_held : (d : Diagram) (op : Op) (a b : ℕ) → Posed (showing d) (Both op a b) → Number d a × Number d b
-both_held d op a b p = and_parts _ _ p.0
+use Rattle.diagram.proofs.Grown.{Number, number, both_held, grown_posed, grown_peak, grown_asked}
 
 -- in a diagram that has grown, a task asks for the same
 module _ (d e : Diagram) (vars : e.n ≡ d.n) (x : Ext (listed d) (listed e)) where
@@ -41,15 +31,15 @@ module _ (d e : Diagram) (vars : e.n ≡ d.n) (x : Ext (listed d) (listed e)) wh
   still_asked = grown_asked d.n e.n (listed d) (listed e) (capacity d) (capacity e) (sound_of d) vars x
 
 module _ (d : Diagram) where
-  free_number : (a j : ℕ) (t : Bool) → Number d a → j < top d.n (listed d) a → (w : ℕ) → value (listed d) a (fixed j t w) ≡ value (listed d) a w
-  free_number a j t h l w = value_free d.n (listed d) (sound_of d) a j w t (number d a h) l
+  free_number : (a j : ℕ) (t : Bool) → Number (listed d) a → j < top d.n (listed d) a → (w : ℕ) → value (listed d) a (fixed j t w) ≡ value (listed d) a w
+  free_number a j t h l w = value_free d.n (listed d) (sound_of d) a j w t (number (listed d) a h) l
 
   -- a task asks for a function that does not depend on the variables above its operands
   free_task : (task : Task) (v j : ℕ) (t : Bool) → Posed (showing d) task → v ≤ peak d.n (listed d) task → Before v task → j < v
       → Same d.n (fix j t (asked (showing d) task)) (asked (showing d) task)
   free_task (Variable i) v j t p u b l w _ = bit_fixed_other i j t w (λ e. omega arith)
   free_task (Not a) v j t p u b l w _ = ap not (free_number a j t p.0 (omega arith) w)
-  free_task (Both op a c) v j t p u b l w _ = let q = both_held d op a c p in
+  free_task (Both op a c) v j t p u b l w _ = let q = both_held d.n (capacity d) (listed d) op a c p in
       ap₂ (applied op) (free_number a j t q.0 (omega arith) w) (free_number c j t q.1 (omega arith) w)
   free_task (Cofactor a i s) v j t p u b l w _ =
       ap (value (listed d) a) (fixed_comm i j s t w (λ e. omega arith)) ∙ free_number a j t p.0 (omega arith) (fixed i s w)
@@ -60,7 +50,7 @@ module _ (d : Diagram) where
   splits_task task v p below u b half h =
       record { below = below; half = λ t. (h t).means; free = λ j t l. free_task task v j t p u b l }
 
-  held_number : (a v : ℕ) (t : Bool) (r : ℕ) → Halved d.n (listed d) a v t r → Number d r
+  held_number : (a v : ℕ) (t : Bool) (r : ℕ) → Halved d.n (listed d) a v t r → Number (listed d) r
   held_number a v t r h = lt-ltb r (length (listed d) + 2) h.held
 
   -- the halves of a variable are the constants
@@ -85,16 +75,12 @@ module _ (d : Diagram) where
   }
 
   -- what a number that is no constant has on top
-  pub inner_top : (a : ℕ) → Number d a → 2 ≤ a → top d.n (listed d) a < d.n
-  inner_top a h l = let r = read_of d a (number d a h) l _ refl in omega (arith, r.variable, r.below)
-
-  pub settled_not : (a : ℕ) → Posed (showing d) (Not a) → 2 ≤ a → Settled d (Not a) None
-  settled_not a p l = (inner_top a p.0 l, tt)
-
-  pub settled_cofactor : (a i : ℕ) (t : Bool) (r : ℕ) → Halved d.n (listed d) a i t r → Settled d (Cofactor a i t) (Some r)
-  settled_cofactor a i t r h = (h.held, h.lower, same_sym d.n _ _ h.means)
+  inner_top : (a : ℕ) → Number (listed d) a → 2 ≤ a → top d.n (listed d) a < d.n
+  inner_top zero h l = absurd (omega arith)
+  inner_top (suc zero) h l = absurd (omega arith)
+  inner_top (suc (suc k)) h l = (read_of d (suc (suc k)) (number (listed d) _ h) _ refl).below
 
   pub settled_both : (op : Op) (a b : ℕ) (r : Option ℕ) → Posed (showing d) (Both op a b) → Plain op a b r → Settled d (Both op a b) r
-  settled_both op a b None p q = let l = inner_top a (both_held d op a b p).0 q.0 in (omega arith, tt)
-  settled_both op a b (Some r) p (inl e, m) = let h = number d a (both_held d op a b p).0 in (omega arith, omega (arith, ap (top d.n (listed d)) e), (λ w _. m (listed d) w))
-  settled_both op a b (Some r) p (inr e, m) = let h = number d b (both_held d op a b p).1 in (omega arith, omega (arith, ap (top d.n (listed d)) e), (λ w _. m (listed d) w))
+  settled_both op a b None p q = let l = inner_top a (both_held d.n (capacity d) (listed d) op a b p).0 q.0 in (omega arith, tt)
+  settled_both op a b (Some r) p (inl e, m) = let h = number (listed d) a (both_held d.n (capacity d) (listed d) op a b p).0 in (omega arith, omega (arith, ap (top d.n (listed d)) e), (λ w _. m (listed d) w))
+  settled_both op a b (Some r) p (inr e, m) = let h = number (listed d) b (both_held d.n (capacity d) (listed d) op a b p).1 in (omega arith, omega (arith, ap (top d.n (listed d)) e), (λ w _. m (listed d) w))

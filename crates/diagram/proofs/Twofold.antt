@@ -1,18 +1,19 @@
 -- A function is made by its halves: the low one, then the high one, then both are joined. Each step may find the records full.
-use Rattle.std.proofs.Common.{◌≡◌, ℕ, suc, ◌+◌, ◌<◌, Bool, true, false, cond, length, None, Ok, Err, Result, sym, ◌∙◌, subst, arith}
+use Rattle.std.proofs.Common.{◌≡◌, ℕ, suc, ◌<◌, Bool, true, false, cond, None, Ok, Err, Result, sym, ◌∙◌, subst, arith}
+use Rattle.store.specs.Tasks.{asked, Posed}
 use Rattle.store.specs.Fun.{Fn, Same}
 use Rattle.nodes.specs.Graph.{value, top}
 use Rattle.nodes.specs.Growth.{Built, Short, Splits, choose}
 use Rattle.nodes.proofs.Build.{built_weaker, built_like, short_weaker, short_like, short_low, short_high, built_both, short_both}
 use Rattle.nodes.proofs.Extend.{ext_trans, top_ext}
 use Rattle.diagram.specs.declared.Diagram.{Diagram}
-use Rattle.diagram.specs.declared.full.Full.{Full}
-use Rattle.diagram.specs.declared.task.Task.{Task}
-use Rattle.diagram.specs.Asked.{asked, peak, Posed, Before}
+use Rattle.records.specs.declared.Full.{Full}
+use Rattle.store.specs.declared.task.Task.{Task}
+use Rattle.diagram.specs.Asked.{peak, Before}
 use Rattle.diagram.specs.Making.{Outcome, Making, Makes, Settled, HalvedTask}
 use Rattle.diagram.specs.Shows.{listed, capacity, showing}
 use Rattle.diagram.proofs.Fields.{sound_at}
-use Rattle.diagram.proofs.Tasks.{still_posed, still_peak, still_asked, splits_task}
+use Rattle.diagram.proofs.Tasks.{still_peak, still_asked, splits_task}
 
 -- what is made in e, which has as many variables and records as d
 abbrev OutcomeAs : Diagram → Diagram → Diagram → ℕ → Fn → Result ℕ Full → Type 0
@@ -24,9 +25,15 @@ made_as d e e₂ v f (Ok r) p q m = subst (λ (n : ℕ). Built n (listed e) (lis
 made_as d e e₂ v f (Err s) p q m =
     subst (λ (n : ℕ). Short n (listed e) (capacity d) v f) p (subst (λ (c : ℕ). Short e.n (listed e) c v f) q m.outcome.1)
 
--- the task is halved by its first variable, v
-module _ (d : Diagram) (task : Task) (posed : Posed (showing d) task) (settled : Settled d task None) (v : ℕ) (first : v ≡ peak d.n (listed d) task)
-    (off on : Task) (hoff : HalvedTask d task v false off) (hon : HalvedTask d task v true on) where
+-- a task that no number is there for, and its halves by its first variable, v
+pub record Halves (d : Diagram) (task : Task) (v : ℕ) (off on : Task) : Type 0 where
+  pub posed : Posed (showing d) task
+  pub settled : Settled d task None
+  pub first : v ≡ peak d.n (listed d) task
+  pub low : HalvedTask d task v false off
+  pub high : HalvedTask d task v true on
+
+module _ (d : Diagram) (task : Task) (v : ℕ) (off on : Task) (h : Halves d task v off on) where
   abbrev f : Fn
   f = asked (showing d) task
 
@@ -35,14 +42,14 @@ module _ (d : Diagram) (task : Task) (posed : Posed (showing d) task) (settled :
 
   splits : Splits d.n v f half
   splits =
-      splits_task d task v posed (omega (arith, settled.0)) (omega arith) (subst (λ (u : ℕ). Before u task) (sym first) settled.1) (λ t. cond t on off) halves
+      splits_task d task v h.posed (omega (arith, h.settled.0)) (omega (arith, h.first)) (subst (λ (u : ℕ). Before u task) (sym h.first) h.settled.1) (λ t. cond t on off) halves
     where
       halves : (t : Bool) → HalvedTask d task v t (cond t on off)
-      halves true = hon
-      halves false = hoff
+      halves true = h.high
+      halves false = h.low
 
   at_peak : (e : Diagram) (r : Result ℕ Full) → Making d e v f r → Makes d task r e
-  at_peak e r m = subst (λ (u : ℕ). Making d e u f r) first m
+  at_peak e r m = subst (λ (u : ℕ). Making d e u f r) h.first m
 
   pub low_stops : (e : Diagram) (s t : Full) → Makes d off (Err s) e → Makes d task (Err t) e
   low_stops e s t m = at_peak e (Err t) (record {
@@ -50,22 +57,19 @@ module _ (d : Diagram) (task : Task) (posed : Posed (showing d) task) (settled :
     capacity = m.capacity;
     outcome = (
       m.outcome.0,
-      short_low d.n v f half splits (listed d) (capacity d) (short_weaker d.n (listed d) (capacity d) _ (suc v) _ hoff.under m.outcome.1),
+      short_low d.n v f half splits (listed d) (capacity d) (short_weaker d.n (listed d) (capacity d) _ (suc v) _ h.low.under m.outcome.1),
     );
   })
 
   module _ (e : Diagram) (low : ℕ) (m : Makes d off (Ok low) e) where
     built_low : Built d.n (listed d) (listed e) (suc v) (half false) low
-    built_low = built_weaker d.n (listed d) (listed e) _ (suc v) _ low hoff.under m.outcome
+    built_low = built_weaker d.n (listed d) (listed e) _ (suc v) _ low h.low.under m.outcome
 
-    pub on_posed : Posed (showing e) on
-    on_posed = still_posed d e m.vars m.outcome.parts.ext on hon.posed
-
-    pub on_under : v < peak e.n (listed e) on
-    on_under = omega (arith, hon.under, still_peak d e m.vars m.outcome.parts.ext on hon.posed)
+    on_under : v < peak e.n (listed e) on
+    on_under = omega (arith, h.high.under, still_peak d e m.vars m.outcome.parts.ext on h.high.posed)
 
     on_same : Same d.n (asked (showing e) on) (half true)
-    on_same w _ = still_asked d e m.vars m.outcome.parts.ext on hon.posed w
+    on_same w _ = still_asked d e m.vars m.outcome.parts.ext on h.high.posed w
 
     pub high_stops : (e₂ : Diagram) (s t : Full) → Makes e on (Err s) e₂ → Makes d task (Err t) e₂
     high_stops e₂ s t m₂ = at_peak e₂ (Err t) (record {
@@ -87,14 +91,6 @@ module _ (d : Diagram) (task : Task) (posed : Posed (showing d) task) (settled :
 
       vars₂ : e₂.n ≡ d.n
       vars₂ = m₂.vars ∙ m.vars
-
-      -- the two halves can be joined
-      pub join_below : v < e₂.n
-      join_below = omega (arith, vars₂, settled.0)
-
-      pub join_held : (t : Bool) → cond t high low < length (listed e₂) + 2
-      join_held true = built_high.held
-      join_held false = omega (arith, built_low.held, built_high.parts.ext.longer)
 
       join_over : (t : Bool) → v < top d.n (listed e₂) (cond t high low)
       join_over true = built_high.under

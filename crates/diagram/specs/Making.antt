@@ -1,5 +1,6 @@
 -- What is made inside a diagram.
 use Rattle.std.specs.Prelude.{◌≡◌, ℕ, ◌+◌, ◌-◌, ◌<◌, ◌≤◌, Bool, length, take, Some, None, Ok, Err, Option, Result}
+use Rattle.store.specs.Tasks.{asked, operands, Posed, within}
 use Rattle.store.specs.Fun.{Fn, Same, fix}
 use Rattle.store.specs.Calls.{Reply}
 use Rattle.store.specs.declared.refusal.Refusal.{Refusal}
@@ -8,10 +9,10 @@ use Rattle.nodes.specs.Graph.{value, top}
 use Rattle.nodes.specs.Growth.{Ext, Built, Short}
 use Rattle.nodes.specs.Shows.{shown}
 use Rattle.diagram.specs.declared.Diagram.{Diagram}
-use Rattle.diagram.specs.declared.full.Full.{Full}
-use Rattle.diagram.specs.declared.task.Task.{Task}
+use Rattle.records.specs.declared.Full.{Full}
+use Rattle.store.specs.declared.task.Task.{Task}
 use Rattle.diagram.specs.Shows.{listed, capacity, showing}
-use Rattle.diagram.specs.Asked.{operands, within, asked, peak, Posed, Before}
+use Rattle.diagram.specs.Asked.{peak, Before}
 
 -- f, which depends on no variable above v, is built, or needs more records than there are
 abbrev pub Outcome : Diagram → Diagram → ℕ → Fn → Result ℕ Full → Type 0

@@ -1,15 +1,16 @@
 -- What the memo of a diagram remembers.
 use Rattle.std.specs.Prelude.{◌≡◌, ℕ, ◌+◌, ◌*◌, ◌/◌, ◌%◌, ◌^◌, ◌<◌, ◌≤◌, cond, List, length, replicate, Some, None, Option, slice_index_or, slice_set}
+use Rattle.store.specs.Tasks.{asked, Posed}
 use Rattle.store.specs.Fun.{Same}
 use Rattle.nodes.specs.declared.Node.{Node}
 use Rattle.nodes.specs.Graph.{value, top}
 use Rattle.nodes.specs.Shows.{shown}
-use Rattle.diagram.specs.declared.task.Op.TheVariants.{And, Or}
-use Rattle.diagram.specs.declared.task.Task.{Task}
-use Rattle.diagram.specs.declared.task.Task.TheVariants.{Variable, Not, Both, Cofactor}
+use Rattle.store.specs.declared.task.Op.TheVariants.{And, Or}
+use Rattle.store.specs.declared.task.Task.{Task}
+use Rattle.store.specs.declared.task.Task.TheVariants.{Variable, Not, Both, Cofactor}
 use Rattle.diagram.specs.declared.memo.Slot.{Slot}
 use Rattle.diagram.specs.declared.memo.Memo.{Memo}
-use Rattle.diagram.specs.Asked.{asked, peak, Posed}
+use Rattle.diagram.specs.Asked.{peak}
 
 -- the kind of a task and its operands, side by side
 abbrev pub key : Task → ℕ

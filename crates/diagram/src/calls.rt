@@ -2,10 +2,10 @@
 ghost use Rattle.diagram.specs.Shows.{showing};
 
 use super::Diagram;
-use super::task::{Op, Task};
 use store::Store;
 use store::figures::Figures;
 use store::refusal::Refusal;
+use store::task::{Op, Task, check_value};
 
 impl Store for Diagram<'_> {
     ghost shows = { λ d. showing d };
@@ -31,13 +31,7 @@ impl Store for Diagram<'_> {
     }
 
     fn value(&mut self, a: u16, w: u32) -> Result<bool, Refusal> {
-        let valuations = self.valuations();
-        if !self.holds(a) {
-            return Err(Refusal::Number);
-        }
-        if w >= valuations {
-            return Err(Refusal::Variable);
-        }
+        check_value(a, w, self.held(), self.n)?;
         Ok(self.truth(a, w))
     }
 

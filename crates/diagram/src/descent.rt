@@ -3,14 +3,15 @@ ghost use Rattle.std.specs.Prelude.{◌≡◌, ◌+◌, ◌<◌, Bool, length, i
 ghost use Rattle.nodes.specs.Graph.{top, value};
 ghost use Rattle.nodes.specs.Growth.{choose};
 ghost use Rattle.diagram.specs.Shows.{listed, showing};
-ghost use Rattle.diagram.specs.Asked.{peak, Posed, Before};
+ghost use Rattle.store.specs.Tasks.{Posed};
+ghost use Rattle.diagram.specs.Asked.{peak, Before};
 ghost use Rattle.diagram.specs.Making.{Making, Makes, Settled, HalvedTask};
 
 use super::Diagram;
-use super::full::Full;
-use super::task::Task;
+use super::operator::by_constant;
 use nodes::Node;
-use records::placed::Placed;
+use records::Full;
+use store::task::Task;
 
 impl Diagram<'_> {
     // The number of the function that is `high` where the variable is true, and else `low`.
@@ -23,33 +24,25 @@ impl Diagram<'_> {
         if low == high {
             return Ok(low);
         }
-        match self.nodes.find_or_add(Node {
+        let node = Node {
             variable,
             low,
             high,
-        }) {
-            Placed::Found(i) => Ok(i as u16 + 2),
-            Placed::Added(i) => Ok(i as u16 + 2),
-            Placed::Full => Err(Full),
-        }
+        };
+        Ok(self.nodes.find_or_add(node)? as u16 + 2)
     }
 
     // The number of the task's function where a constant or the fixed variable gives it.
+    // Each step asks that the task is posed: a type that says so would hold the diagram, which grows between the halves.
     fn at_once(&self, task: Task) -> Option<u16>
         requires { Posed (showing self.now) task }
         ensures { Settled self.now task result }
     {
         match task {
-            Task::Variable(_) => None,
-            Task::Not(a) => if a < 2 { Some(1 - a) } else { None },
-            Task::Both(op, a, b) => op.at_once(a, b),
-            Task::Cofactor(a, i, t) => {
-                if i <= self.top(a) {
-                    Some(self.child(a, i, t))
-                } else {
-                    None
-                }
-            }
+            Task::Not(a) if a < 2 => Some(1 - a),
+            Task::Both(op, a, b) => by_constant(op, a, b),
+            Task::Cofactor(a, i, t) if i <= self.top(a) => Some(self.child(a, i, t)),
+            Task::Variable(_) | Task::Not(_) | Task::Cofactor(_, _, _) => None,
         }
     }
 
@@ -76,7 +69,7 @@ impl Diagram<'_> {
     {
         match task {
             // The constant t.
-            Task::Variable(_) => Task::Not(!t as u16),
+            Task::Variable(_) => Task::Not(u16::from(!t)),
             Task::Not(a) => Task::Not(self.child(a, variable, t)),
             Task::Both(op, a, b) => {
                 let left = self.child(a, variable, t);

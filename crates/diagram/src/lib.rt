@@ -10,11 +10,10 @@ mod answer;
 pub mod calls;
 mod descent;
 pub mod facts;
-mod full;
 pub mod making;
 mod memo;
 mod numbers;
-mod task;
+mod operator;
 
 use memo::Memo;
 use nodes::Node;

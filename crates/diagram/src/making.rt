@@ -9,17 +9,14 @@ use super::Diagram;
 use super::memo::Memo;
 use nodes::Node;
 use records::List;
+use store::fitting::fit;
 use store::refusal::Unfit;
 
 // Whether a diagram store of n variables can be made in the records.
 pub fn check(n: u8, records: &[Node]) -> Result<(), Unfit>
     ensures { result ≡ (if suits n (length records.now) then Ok tt else Err Outside) }
 {
-    if n >= 1 && n <= 24 && records.len() <= 65534 {
-        Ok(())
-    } else {
-        Err(Unfit::Store)
-    }
+    fit(n, 24, records)
 }
 
 impl<'a> Diagram<'a> {
@@ -29,9 +26,10 @@ impl<'a> Diagram<'a> {
         ensures fresh { Fresh (showing result) }
         ensures lawful { Lawful (showing result) }
     {
-        match check(n, records) {
-            Ok(_) => Diagram::empty(n, records),
-            Err(_) => Diagram::empty(1, &mut []),
+        if check(n, records).is_ok() {
+            Diagram::empty(n, records)
+        } else {
+            Diagram::empty(1, &mut [])
         }
     }
 

@@ -1,8 +1,8 @@
 // The memo of the descents: every task has one place in a table, and the last one that was made there stays.
-ghost use Rattle.std.specs.Prelude.{◌≡◌};
+ghost use Rattle.std.specs.Prelude.{◌≡◌, ◌<◌};
 ghost use Rattle.diagram.specs.Remembered.{key, place, all_blank, updated, Recalls};
 
-use super::task::{Op, Task};
+use store::task::{Op, Task};
 
 const BITS: u32 = 12;
 
@@ -26,23 +26,24 @@ pub struct Memo {
     slots: [Slot; SLOTS],
 }
 
-// The kind of the task and its operands, side by side.
+// The kind of the task and its operands, side by side. No derived hash: a hasher to take it would say the same in more lines.
 fn key(task: Task) -> u64
     ensures { result ≡ key task }
 {
     let (kind, a, b) = match task {
-        Task::Variable(i) => (0, i as u64, 0),
-        Task::Not(a) => (1, a as u64, 0),
-        Task::Both(Op::And, a, b) => (2, a as u64, b as u64),
-        Task::Both(Op::Or, a, b) => (3, a as u64, b as u64),
-        Task::Cofactor(a, i, t) => (4, a as u64, 2 * i as u64 + t as u64),
+        Task::Variable(i) => (0, u64::from(i), 0),
+        Task::Not(a) => (1, u64::from(a), 0),
+        Task::Both(Op::And, a, b) => (2, u64::from(a), u64::from(b)),
+        Task::Both(Op::Or, a, b) => (3, u64::from(a), u64::from(b)),
+        Task::Cofactor(a, i, t) => (4, u64::from(a), 2 * u64::from(i) + u64::from(t)),
     };
     (kind * 65536 + a) * 65536 + b
 }
 
 // The top bits of a product with 2 to the 64 by the golden ratio, which spreads keys that are close.
 fn place(task: Task) -> usize
-    ensures { result ≡ place task }
+    ensures hashed { result ≡ place task }
+    ensures within { result < SLOTS }
 {
     (key(task).wrapping_mul(0x9e37_79b9_7f4a_7c15) >> (64 - BITS)) as usize
 }
@@ -62,11 +63,7 @@ impl Memo {
         ensures { Recalls self.now task result }
     {
         let slot = self.slots[place(task)];
-        if slot.task == task {
-            Some(slot.number)
-        } else {
-            None
-        }
+        (slot.task == task).then_some(slot.number)
     }
 
     pub fn remember(&mut self, task: Task, number: u16)

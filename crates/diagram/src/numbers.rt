@@ -1,12 +1,13 @@
 // What a diagram knows of its size and of its function numbers.
-ghost use Rattle.std.specs.Prelude.{◌≡◌, ◌+◌, ◌-◌, ◌^◌, ◌<◌, ◌≤◌, length, nat_lt};
+ghost use Rattle.std.specs.Prelude.{◌≡◌, ◌+◌, ◌^◌, ◌<◌, ◌≤◌, length};
 ghost use Rattle.store.specs.Meaning.{Lawful};
-ghost use Rattle.nodes.specs.Graph.{node, top, value};
+ghost use Rattle.nodes.specs.Graph.{top, value};
 ghost use Rattle.nodes.specs.Growth.{Halved};
-ghost use Rattle.diagram.specs.Shows.{listed, capacity, showing};
+ghost use Rattle.diagram.specs.Shows.{listed, capacity, showing, node_under};
 
 use super::Diagram;
 use nodes::Node;
+use store::bits::bit;
 
 impl Diagram<'_> {
     pub(super) fn used(&self) -> u32
@@ -29,19 +30,21 @@ impl Diagram<'_> {
         1 << self.n
     }
 
-    pub(super) fn holds(&self, a: u16) -> bool
-        ensures { result ≡ nat_lt a (length (listed self.now) + 2) }
+    // The numbers below are held: the constants, and one for each node.
+    pub(super) fn held(&self) -> usize
+        ensures { result ≡ length (listed self.now) + 2 }
     {
-        (a as usize) < self.nodes.len() + 2
+        self.nodes.len() + 2
     }
 
-    // The node of a number that is no constant.
-    fn node(&self, a: u16) -> Node
-        requires held { a < length (listed self.now) + 2 }
-        requires inner { 2 ≤ a }
-        ensures { result ≡ node (listed self.now) (a - 2) }
+    // The node of a number, and none for a constant.
+    // Each reader asks that its number is held: a type that says so would hold the diagram, which grows while numbers wait.
+    fn node(&self, a: u16) -> Option<Node>
+        requires { a < length (listed self.now) + 2 }
+        ensures { result ≡ node_under (listed self.now) a }
     {
-        *self.nodes.get(a as usize - 2).unwrap()
+        let place = a.checked_sub(2)?;
+        Some(*self.nodes.get(usize::from(place)).unwrap())
     }
 
     // The variable on top of a, and the number of variables for a constant.
@@ -49,7 +52,7 @@ impl Diagram<'_> {
         requires { a < length (listed self.now) + 2 }
         ensures { result ≡ top self.now.n (listed self.now) a }
     {
-        if a < 2 { self.n } else { self.node(a).variable }
+        self.node(a).map_or(self.n, |node| node.variable)
     }
 
     // The number of a with a variable fixed to t that a has not below its top.
@@ -59,14 +62,9 @@ impl Diagram<'_> {
         requires over { variable ≤ top self.now.n (listed self.now) a }
         ensures { Halved self.now.n (listed self.now) a variable t result }
     {
-        if a < 2 {
-            return a;
-        }
-        let node = self.node(a);
-        if node.variable == variable {
-            node.child(t)
-        } else {
-            a
+        match self.node(a) {
+            Some(node) if node.variable == variable => node.child(t),
+            _ => a,
         }
     }
 
@@ -76,9 +74,8 @@ impl Diagram<'_> {
         ensures { result ≡ value (listed self.now) a w }
     {
         let mut at = a;
-        while at >= 2 {
-            let node = self.node(at);
-            at = node.child((w >> node.variable) % 2 == 1);
+        while let Some(node) = self.node(at) {
+            at = node.child(bit(w, node.variable));
         }
         at == 1
     }

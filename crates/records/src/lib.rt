@@ -15,7 +15,7 @@ use entry::Entry;
 #[derive(Clone, Copy, PartialEq, Eq, Debug)]
 pub struct Full;
 
-// The first `used` of the records are in use.
+// The first `used` of the records are in use. A slice with a length beside it, and no vector: a store's memory is lent to it.
 #[derive(Drop)]
 pub struct List<'a, T> {
     records: &'a mut [T],

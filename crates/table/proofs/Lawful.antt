@@ -1,11 +1,16 @@
 -- What a table store shows is lawful.
-use Rattle.std.proofs.Common.{◌≡◌, ℕ, ◌+◌, ◌≤◌, Bool, true, false, cond, leb, List, [], length, is_ok, sym, refl, ap, ⊎_elim, arith}
-use Rattle.std.proofs.lemmas.Bool.{cases_Bool, cases_order, cond-true, cond-false, cond_both, lt-ltb, ltb-true, leb-true, and_parts}
+use Rattle.std.proofs.Common.{◌≡◌, ℕ, ◌+◌, ◌≤◌, Bool, true, false, cond, leb, List, [], length, is_err, refl, ap, ⊎_elim, arith}
+use Rattle.std.proofs.lemmas.Bool.{cases_Bool, cases_order, cond-true, cond-false, cond_both, lt-ltb, ltb-true, leb-true, and_parts, false≢true}
+use Rattle.store.specs.Fitting.{fitting}
 use Rattle.store.specs.Fun.{Fn}
 use Rattle.store.specs.Meaning.{Lawful, Fresh, holds, price}
 use Rattle.store.proofs.Same.{holds_like, same_refl, same_sym}
+use Rattle.records.specs.Contents.{entries, room}
+use Rattle.records.proofs.Contents.{entries_fit}
+use Rattle.table.specs.declared.Table.{Table}
+use Rattle.table.specs.Replies.{shows}
 use Rattle.table.specs.declared.truths.Truths.{Truths}
-use Rattle.table.specs.Shows.{shown, sound, suits, verdict}
+use Rattle.table.specs.Shows.{shown, sound, suits}
 use Rattle.table.proofs.Sound.{sound_tells, sound_empty}
 
 module _ (n : ℕ) (xs : List Truths) (capacity : ℕ) where
@@ -49,6 +54,9 @@ suits_tells n records e =
     let q = and_parts (leb 1 n) (leb n 10) p.0 in
     (leb-true 1 n q.0, leb-true n 10 q.1, leb-true records 65534 p.1)
 
-pub verdict_ok : (b t : Bool) → t ≡ is_ok (verdict b) → b ≡ t
-verdict_ok true t e = sym e
-verdict_ok false t e = sym e
+pub fit_tells : (b : Bool) → false ≡ is_err (fitting b) → b ≡ true
+fit_tells true e = refl
+fit_tells false e = absurd (false≢true e)
+
+pub lawful_table : (d : Table) → Lawful (shows d)
+lawful_table d = lawful_shown d.n (entries d.list) (room d.list) d.few (entries_fit d.list) d.small d.apart

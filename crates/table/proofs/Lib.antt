@@ -1,5 +1,3 @@
-mod Bits
-mod Calls
 mod Lawful
 mod Made
 mod Sound

@@ -1,14 +1,13 @@
 -- A function that is made over the tables xs, by what its look-up answers.
-use Rattle.std.proofs.Common.{◌≡◌, ℕ, zero, suc, ◌+◌, ◌<◌, ◌≤◌, Bool, true, false, List, [], ◌∷◌, ◌++◌, length, get_or, Some, Ok, Err, Result, sym, refl, ap, ◌∙◌, subst, ⊎_elim, arith}
+use Rattle.std.proofs.Common.{◌≡◌, ℕ, zero, suc, ◌+◌, ◌<◌, ◌≤◌, Bool, true, false, List, [], ◌∷◌, ◌++◌, length, get_or, Some, None, Option, Ok, Err, Result, sym, refl, ap, ◌∙◌, subst, ⊎_elim, arith}
 use mir.Val.{bool_byte}
 use Rattle.std.specs.List.{slice_get}
 use Rattle.std.proofs.ByRecursion.{All-get_or}
 use Rattle.std.proofs.lemmas.List.{length_push}
-use Rattle.std.proofs.lemmas.Option.{slice_get-get_or, slice_get_past as nth_past}
-use Rattle.std.proofs.lemmas.Bool.{cases_lt, lt-ltb, ltb-true, not-true, both_ways}
+use Rattle.std.proofs.lemmas.Option.{slice_get-get_or, slice_get_within}
+use Rattle.std.proofs.lemmas.Bool.{lt-ltb, ltb-true, not-true, both_ways}
 use Rattle.std.proofs.lemmas.Bool.Decides.{Decides-not}
-use Rattle.records.specs.declared.placed.Placed.{Placed}
-use Rattle.records.specs.declared.placed.Placed.TheVariants.{Found, Added, Full}
+use Rattle.records.specs.declared.Full.{Full}
 use Rattle.records.specs.declared.List.{List as Records}
 use Rattle.records.specs.Contents.{entries, room}
 use Rattle.records.specs.Placing.{Places, Answers as LookedUp}
@@ -22,23 +21,29 @@ use Rattle.store.proofs.Same.{holds_tells, same_refl, same_sym}
 use Rattle.store.proofs.Making.{made_of}
 use Rattle.table.specs.declared.Table.{Table}
 use Rattle.table.specs.declared.truths.Truths.{Truths}
-use Rattle.table.specs.Tables.{truth, table}
+use Rattle.table.specs.Tables.{truth, table, Constant}
+use Rattle.table.specs.Replies.{shows}
 use Rattle.table.specs.Shows.{kept, value, shown, sound}
 use Rattle.table.proofs.Tables.{truth_table, table_same}
 use Rattle.table.proofs.Sound.{sound_tells, sound_push, value_left, value_seam}
-use Rattle.table.proofs.Calls.{shows}
 use Rattle.table.proofs.Lawful.{free_of, price_one, lawful_shown}
 
 -- the answer to a making call, by where its table is placed
-abbrev pub reply : Placed → Result ℕ Refusal
-reply (Found k) = Ok (k + 2)
-reply (Added k) = Ok (k + 2)
-reply Full = Err (Room 0)
+abbrev pub reply : Result ℕ Full → Result ℕ Refusal
+reply (Ok k) = Ok (k + 2)
+reply (Err _) = Err (Room 0)
 
-abbrev pub Narrow : Placed → Type 0
-Narrow (Found k) = k + 2 < 65536
-Narrow (Added k) = k + 2 < 65536
-Narrow Full = Unit {0}
+abbrev pub Narrow : Result ℕ Full → Type 0
+Narrow (Ok k) = k + 2 < 65536
+Narrow (Err _) = Unit {0}
+
+-- the constant that a function is, by its table
+pub constant_of : (n : ℕ) (f : Fn) (t : Truths) (r : Option Bool) → n ≤ 10 → t ≡ table n f → Constant n (truth t) r → Constant n f r
+constant_of n f t r few is e = told r (subst (λ (u : Truths). Constant n (truth u) r) is e)
+  where
+    told : (r : Option Bool) → Constant n (truth (table n f)) r → Constant n f r
+    told (Some b) e = λ w h. sym (truth_table n f few w h) ∙ e w h
+    told None e = λ b s. e b (λ w h. truth_table n f few w h ∙ s w h)
 
 module _ (n : ℕ) (xs : List Truths) (capacity : ℕ) (few : n ≤ 10) (fits : length xs ≤ capacity) (small : capacity ≤ 65534) (s : sound n xs ≡ true) (f : Fn) where
   -- f is held under the number a
@@ -74,23 +79,22 @@ module _ (n : ℕ) (xs : List Truths) (capacity : ℕ) (few : n ≤ 10) (fits : 
     not_held absent = not-true _ ((Decides-not _ (holds_tells (shown n xs capacity) f)).1
         (λ t. under_none absent t.0 (ltb-true t.0 (length xs + 2) t.2.0) t.2.1))
 
-    sound_placed : (p : Placed) (ys : List Truths) → LookedUp xs capacity (table n f) p ys → sound n ys ≡ true
-    sound_placed (Found k) ys h = subst (λ (zs : List Truths). sound n zs ≡ true) (sym h.2) s
-    sound_placed (Added k) ys h = subst (λ (zs : List Truths). sound n zs ≡ true) (sym h.3) (sound_push n xs f few s (under_none h.2))
-    sound_placed Full ys h = subst (λ (zs : List Truths). sound n zs ≡ true) (sym h.2) s
+    sound_placed : (p : Result ℕ Full) (ys : List Truths) → LookedUp xs capacity (table n f) p ys → sound n ys ≡ true
+    sound_placed (Ok k) ys h = ⊎_elim
+        (λ found. subst (λ (zs : List Truths). sound n zs ≡ true) (sym found.1) s)
+        (λ added. subst (λ (zs : List Truths). sound n zs ≡ true) (sym added.2)
+        (sound_push n xs f few s (under_none (λ j low. h.0 j (omega (arith, added.0))))))
+        h.1
+    sound_placed (Err _) ys h = subst (λ (zs : List Truths). sound n zs ≡ true) (sym h.2) s
 
-    found_low : (k : ℕ) → slice_get xs k ≡ Some (table n f) → k < length xs
-    found_low k e = ⊎_elim (λ low. low) (λ past. let q = nth_past xs k past in let z : ◌≡◌ {A = ℕ} 0 1 = cc in absurd (omega arith)) (cases_lt k (length xs))
-
-    narrow_placed : (p : Placed) (ys : List Truths) → LookedUp xs capacity (table n f) p ys → Narrow p
-    narrow_placed (Found k) ys h = omega (arith, found_low k h.0)
-    narrow_placed (Added k) ys h = omega (arith, h.0, h.1)
-    narrow_placed Full ys h = tt
+    narrow_placed : (p : Result ℕ Full) (ys : List Truths) → LookedUp xs capacity (table n f) p ys → Narrow p
+    narrow_placed (Ok k) ys h = ⊎_elim (λ found. omega (arith, slice_get_within xs k _ found.0)) (λ added. omega (arith, added.0, added.1)) h.1
+    narrow_placed (Err _) ys h = tt
 
     made_found : (k : ℕ) → slice_get xs k ≡ Some (table n f) → Made (shown n xs capacity) (shown n xs capacity) f (k + 2)
     made_found k e =
         let i : k + 2 ≡ suc (suc k) = omega arith in
-        made_held (k + 2) (omega (arith, found_low k e))
+        made_held (k + 2) (omega (arith, slice_get_within xs k _ e))
         (λ w q. ap (λ (a : ℕ). value xs a w) i ∙ ap (λ o. kept o w) e ∙ truth_table n f few w q)
 
     made_added : length xs < capacity → ((k : ℕ) → k < length xs → slice_get xs k ≡ Some (table n f) → ⊥)
@@ -113,16 +117,21 @@ module _ (n : ℕ) (xs : List Truths) (capacity : ℕ) (few : n ≤ 10) (fits : 
         (omega (arith, price_one n xs capacity f none))
         (λ y. absurd (both_ways _ none y))
 
-    placed_answers : (p : Placed) (ys : List Truths) → LookedUp xs capacity (table n f) p ys → Answers (shown n xs capacity) (shown n ys capacity) f (reply p)
-    placed_answers (Found k) ys h = subst (λ (zs : List Truths). Made (shown n xs capacity) (shown n zs capacity) f (k + 2)) (sym h.2) (made_found k h.0)
-    placed_answers (Added k) ys h =
-        subst (λ (zs : List Truths). Made (shown n xs capacity) (shown n zs capacity) f (k + 2)) (sym h.3)
-        (subst (λ (a : ℕ). Made (shown n xs capacity) (shown n (xs ++ table n f ∷ []) capacity) f (a + 2)) (sym h.0) (made_added h.1 h.2))
-    placed_answers Full ys h =
+    placed_answers : (p : Result ℕ Full) (ys : List Truths) → LookedUp xs capacity (table n f) p ys → Answers (shown n xs capacity) (shown n ys capacity) f (reply p)
+    placed_answers (Ok k) ys h = ⊎_elim
+        (λ found. subst (λ (zs : List Truths). Made (shown n xs capacity) (shown n zs capacity) f (k + 2)) (sym found.1) (made_found k found.0))
+        (λ added. subst (λ (zs : List Truths). Made (shown n xs capacity) (shown n zs capacity) f (k + 2)) (sym added.2)
+        (subst (λ (a : ℕ). Made (shown n xs capacity) (shown n (xs ++ table n f ∷ []) capacity) f (a + 2)) (sym added.0)
+        (made_added added.1 (λ j low. h.0 j (omega (arith, added.0))))))
+        h.1
+    placed_answers (Err _) ys h =
         (ap (λ zs. shown n zs capacity) h.2, omega (arith, price_one n xs capacity f (not_held h.1), h.0), omega (arith, h.0))
 
--- what is then so of a store d whose list has become m, by the look-up of x, the table of f
-module _ (d : Table) (m : Records Truths) (f : Fn) (mixed : (b : Bool) → Same d.n f (λ _. b) → ⊥) (x : Truths) (is : x ≡ table d.n f) (p : Placed) (h : Places d.list x p m) where
+-- what is then so of a store d whose list has become m, by the look-up of x, the table of f, which is no constant
+module _ (d : Table) (m : Records Truths) (f : Fn) (x : Truths) (is : x ≡ table d.n f) (none : Constant d.n (truth x) None) (p : Result ℕ Full) (h : Places d.list x p m) where
+  mixed : (b : Bool) → Same d.n f (λ _. b) → ⊥
+  mixed = constant_of d.n f x None d.few is none
+
   looked : LookedUp (entries d.list) (room d.list) (table d.n f) p (entries m)
   looked = subst (λ (t : Truths). LookedUp (entries d.list) (room d.list) t p (entries m)) is h.0
 
@@ -132,8 +141,7 @@ module _ (d : Table) (m : Records Truths) (f : Fn) (mixed : (b : Bool) → Same 
   pub narrow_after : Narrow p
   narrow_after = narrow_placed d.n (entries d.list) (room d.list) d.few (entries_fit d.list) d.small d.apart f mixed p (entries m) looked
 
-  pub answers_after : (q : Placed) → p ≡ q → Answers (shows d) (shown d.n (entries m) (room m)) f (reply q)
-  answers_after q e =
-      subst (λ (a : Placed). Answers (shows d) (shown d.n (entries m) (room m)) f (reply a)) e
-      (subst (λ (k : ℕ). Answers (shows d) (shown d.n (entries m) k) f (reply p)) (sym h.1)
-      (placed_answers d.n (entries d.list) (room d.list) d.few (entries_fit d.list) d.small d.apart f mixed p (entries m) looked))
+  pub answers_after : Answers (shows d) (shown d.n (entries m) (room m)) f (reply p)
+  answers_after =
+      subst (λ (k : ℕ). Answers (shows d) (shown d.n (entries m) k) f (reply p)) (sym h.1)
+      (placed_answers d.n (entries d.list) (room d.list) d.few (entries_fit d.list) d.small d.apart f mixed p (entries m) looked)

@@ -4,13 +4,13 @@ use Rattle.std.specs.List.{AllByRecursion as All, slice_get}
 use Rattle.std.specs.Str.{bytes_eq}
 use Rattle.std.proofs.lemmas.Nat.{pow_pos}
 use Rattle.std.proofs.ByRecursion.{All-push, Decides-by_and}
-use Rattle.std.proofs.lemmas.Slice.Eq.{bytes_eq-Decides}
 use Rattle.std.proofs.lemmas.List.{length_push}
 use Rattle.std.proofs.lemmas.Bool.{cases_lt, false≢true}
-use Rattle.std.proofs.lemmas.Bool.Decides.{Decides-and, Decides-not, Decides-like, Decides-below_and}
+use Rattle.std.proofs.lemmas.Bool.Decides.{Decides-and, Decides-not, Decides-below_and}
 use Rattle.store.specs.Fun.{Fn, Same, same, each}
 use Rattle.store.proofs.Same.{decides_same, same_sym}
 use Rattle.table.specs.declared.truths.Truths.{Truths}
+use Rattle.table.specs.Identity.{truths_exact}
 use Rattle.table.specs.Tables.{truth, table}
 use Rattle.table.specs.Shows.{kept, value, exact, distinct, sound}
 use Rattle.table.proofs.Tables.{truth_table, table_same}
@@ -25,7 +25,7 @@ Distinct n xs = (b : ℕ) → b < length xs + 2 → (a : ℕ) → a < b → Same
 
 decides_exact : (n : ℕ) (xs : List Truths) → Decides (exact n xs) (Exact n xs)
 decides_exact n xs = Decides-by_and (λ t. bytes_eq t.bytes (table n (truth t)).bytes) (λ t. t ≡ table n (truth t)) (exact n)
-    (λ t. Decides-like _ (ap (λ b. record { bytes = b })) (ap (λ (u : Truths). u.bytes)) (bytes_eq-Decides t.bytes (table n (truth t)).bytes))
+    (λ t. truths_exact t (table n (truth t)))
     refl (λ _ _. refl) xs
 
 decides_distinct : (n : ℕ) (xs : List Truths) → Decides (distinct n xs) (Distinct n xs)

@@ -1,12 +1,17 @@
 -- The table of a function, and the function of a table.
-use Rattle.std.proofs.Common.{◌≡◌, ℕ, zero, suc, ◌+◌, ◌-◌, ◌*◌, ◌/◌, ◌%◌, ◌^◌, ◌<◌, ◌≤◌, Bool, true, false, cond, ◌&&◌, ltb, map, sym, refl, ap, ◌∙◌, ap₂, ⊎_elim, pow-suc, arith, pow_mono}
+use Rattle.std.proofs.Common.{◌≡◌, ℕ, zero, suc, ◌+◌, ◌-◌, ◌*◌, ◌/◌, ◌%◌, ◌^◌, ◌<◌, ◌≤◌, Bool, true, false, cond, ◌&&◌, List, length, get_or, ◌≢◌, ltb, sym, subst, refl, ap, ◌∙◌, ap₂, ⊎_elim, pow-suc, arith, pow_mono}
 use mathlib.Core.Path.{fun_ext}
 use mir.Val.{bool_byte}
-use Rattle.std.specs.List.{range_with_len}
-use Rattle.std.proofs.lemmas.List.FromFn.{get_or-map-range_with_len}
-use Rattle.std.proofs.lemmas.Bool.{cases_Bool, ltb-true, lt-ltb}
+use Rattle.std.specs.Array.{IsFromFnResultFrom}
+use Rattle.std.specs.Bool.{MatchBool, then_some}
+use Rattle.std.specs.Fn.{Called}
+use Rattle.std.specs.List.{range_with_len, AllWithin, HoldsAt}
+use Rattle.std.proofs.lemmas.List.FromFn.{length-range_with_len, get_or-range_with_len, get_or-map-range_with_len}
+use Rattle.std.proofs.lemmas.Bool.{cases_Bool, cases_lt, ltb-true, lt-ltb}
+use Rattle.std.proofs.lemmas.Nat.{pow_pos}
+use denote.Param.Members.{Mut}
 use Rattle.store.specs.Fun.{Fn, bit, Same}
-use Rattle.table.specs.Tables.{truth, packed, within, table}
+use Rattle.table.specs.Tables.{truth, packed, packed_truths, within, table, Constant}
 
 first_bit : (t : Bool) (p : ℕ) → bit 0 (2 * p + cond t 1 0) ≡ t
 first_bit true p = let e : (2 * p + 1) % 2 ≡ 1 = omega arith in rw e refl
@@ -24,13 +29,6 @@ packed_lt (suc m) w g = let q = pow-suc 2 m in let r = packed_lt m (suc w) g in 
 pub packed_none : (w : ℕ) (g : Fn) → packed 0 w g ≡ 0
 unfolding packed
 packed_none w g = refl
-
--- a byte, of which the bits from k on are there
-pub packed_byte : (j k : ℕ) (g : Fn) → 0 < k → packed (8 - k) (8 * j + k) g < 128
-packed_byte j k g h =
-    let few : 8 - k ≤ 7 = omega arith in
-    let p : 2 ^ (8 - k) ≤ 2 ^ 7 = pow_mono few in
-    omega (arith, packed_lt (8 - k) (8 * j + k) g)
 
 pub bool_low : (t : Bool) → bool_byte t ≤ 1
 bool_low true = omega arith
@@ -59,7 +57,7 @@ bit_packed (suc m) w (suc k) g h =
 
 -- a function below 2^n is its table's
 pub truth_table : (n : ℕ) (f : Fn) → n ≤ 10 → Same n (truth (table n f)) f
-unfolding table
+unfolding packed_truths
 truth_table n f few w h =
     let p : 2 ^ n ≤ 2 ^ 10 = pow_mono few in
     let low : w / 8 < 128 = omega arith in
@@ -75,5 +73,34 @@ within_same n f g e = fun_ext (λ w. ⊎_elim
 
 -- a table goes by the function
 pub table_same : (n : ℕ) (f g : Fn) → Same n f g → table n f ≡ table n g
-unfolding table
-table_same n f g e = ap (λ (h : Fn). record { bytes = map (λ j. packed 8 (8 * j) h) (range_with_len 0 128) }) (within_same n f g e)
+table_same n f g e = ap packed_truths (within_same n f g e)
+
+-- the constant that g is, by whether its values from 1 on are its first
+pub constant_told : (n : ℕ) (g : Fn) (first r : Bool) → first ≡ g 0
+    → MatchBool r (AllWithin (λ w. g w ≡ first) (range_with_len 1 (2 ^ n - 1)) 0 (length (range_with_len 1 (2 ^ n - 1))))
+    ((k : ℕ) × (k < length (range_with_len 1 (2 ^ n - 1))) × HoldsAt (λ w. g w ≢ first) (range_with_len 1 (2 ^ n - 1)) k)
+    → Constant n g (then_some r first)
+constant_told n g first true e all = λ w h. at w h
+  where
+    at : (w : ℕ) → w < 2 ^ n → g w ≡ first
+    at zero h = sym e
+    at (suc k) h =
+        let l = length-range_with_len 1 (2 ^ n - 1) in
+        let q = get_or-range_with_len 1 (2 ^ n - 1) k 0 (omega arith) in
+        ap g (omega (arith, q)) ∙ all k 0 (omega arith) (omega (arith, l))
+constant_told n g first false e (k, low, other) =
+    let l = length-range_with_len 1 (2 ^ n - 1) in
+    let p = pow_pos n in
+    let q = get_or-range_with_len 1 (2 ^ n - 1) k 0 (omega (arith, l)) in
+    λ b s. other 0 (s _ (omega (arith, l, q)) ∙ sym (s 0 (omega arith)) ∙ sym e)
+
+-- what the calls in turn gave, where each gives h
+pub from_fn_at : {F B : Type 0} (g : Mut F (ℕ × Unit {0}) B) (f : F) (h : ℕ → B) → ((i : ℕ) (y : B) (q : F) → Called g f (i, tt) y q → (q ≡ f) × (y ≡ h i))
+    → (ys : List B) (d : B) (n i : ℕ) → IsFromFnResultFrom g f ys i n → (k : ℕ) → i ≤ k → k < i + n → get_or ys k d ≡ h k
+from_fn_at g f h step ys d zero i made k low high = absurd (omega arith)
+from_fn_at g f h step ys d (suc n) i (q, y, at, called, rest) k low high =
+    let s = step i y q called in
+    ⊎_elim
+    (λ here. let e : k ≡ i = omega arith in subst (λ (j : ℕ). get_or ys j d ≡ h j) (sym e) (at.1 d ∙ s.1))
+    (λ later. from_fn_at g f h step ys d n (i + 1) (subst (λ (p : _). IsFromFnResultFrom g p ys (i + 1) n) s.0 rest) k later (omega arith))
+    (cases_lt k (i + 1))

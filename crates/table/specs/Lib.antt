@@ -1,3 +1,4 @@
 pub mod Tables
 pub mod Shows
-pub mod Asking
+pub mod Identity
+pub mod Replies

@@ -1,11 +1,10 @@
 -- What a table store of n variables with the tables xs shows to its user.
-use Rattle.std.specs.Prelude.{ℕ, zero, suc, ◌+◌, Bool, true, false, cond, not, ◌&&◌, List, [], ◌∷◌, length, Some, None, Ok, Err, Option, Result, nat_le, nat_lt}
+use Rattle.std.specs.Prelude.{ℕ, zero, suc, ◌+◌, Bool, true, false, cond, not, ◌&&◌, List, [], ◌∷◌, length, Some, None, Option, nat_lt}
 use Rattle.std.specs.List.{slice_get}
 use Rattle.records.specs.declared.List.{List as Records}
 use Rattle.records.specs.Contents.{entries, room}
 use Rattle.std.specs.Str.{bytes_eq}
-use Rattle.store.specs.declared.refusal.Unfit.{Unfit}
-use Rattle.store.specs.declared.refusal.Unfit.TheVariants.{Store}
+use Rattle.store.specs.Fitting.{fits}
 use Rattle.store.specs.Fun.{Fn, each, same}
 use Rattle.store.specs.Meaning.{Shown}
 use Rattle.table.specs.declared.truths.Truths.{Truths}
@@ -51,7 +50,4 @@ sound n xs = exact n xs && distinct n xs
 
 -- whether a table store of n variables can be made over so many records
 abbrev pub suits : ℕ → ℕ → Bool
-suits n records = nat_le 1 n && nat_le n 10 && nat_le records 65534
-
-abbrev pub verdict : Bool → Result (Unit {0}) Unfit
-verdict b = cond b (Ok tt) (Err Store)
+suits n records = fits n 10 records

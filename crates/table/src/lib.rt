@@ -3,18 +3,19 @@
 
 ghost use Rattle.std.specs.Prelude.{◌≡◌, ◌≤◌, true, [], length, if◌then◌else◌};
 ghost use Rattle.records.specs.Contents.{entries, room};
+ghost use Rattle.store.specs.Fitting.{fitting};
 ghost use Rattle.store.specs.Meaning.{Fresh, Lawful};
-ghost use Rattle.table.specs.Shows.{shown, showing, sound, suits, verdict};
+ghost use Rattle.table.specs.Shows.{shown, showing, sound, suits};
 
-mod asked;
 mod making;
 pub mod truths;
 
-use asked::Asked;
 use records::List;
 use store::Store;
 use store::figures::Figures;
+use store::fitting::fit;
 use store::refusal::{Refusal, Unfit};
+use store::task::{Op, Task, check_value};
 use truths::Truths;
 
 // Number 0 is false, 1 is true, and k + 2 is the function of record k.
@@ -30,13 +31,9 @@ pub struct Table<'a> {
 
 // Whether a table store of n variables can be made in the records.
 pub fn check(n: u8, records: &[Truths]) -> Result<(), Unfit>
-    ensures { result ≡ verdict (suits n (length records.now)) }
+    ensures { result ≡ fitting (suits n (length records.now)) }
 {
-    if n >= 1 && n <= 10 && records.len() <= 65534 {
-        Ok(())
-    } else {
-        Err(Unfit::Store)
-    }
+    fit(n, 10, records)
 }
 
 impl<'a> Table<'a> {
@@ -46,15 +43,15 @@ impl<'a> Table<'a> {
         ensures fresh { Fresh (showing result.n result.list) }
         ensures lawful { Lawful (showing result.n result.list) }
     {
-        if check(n, records).is_ok() {
+        if check(n, records).is_err() {
             return Table {
-                n,
-                list: List::new(records),
+                n: 1,
+                list: List::new(&mut []),
             };
         }
         Table {
-            n: 1,
-            list: List::new(&mut records[0..0]),
+            n,
+            list: List::new(records),
         }
     }
 }
@@ -63,50 +60,27 @@ impl Store for Table<'_> {
     ghost shows = { λ d. showing d.n d.list };
 
     fn variable(&mut self, i: u8) -> Result<u16, Refusal> {
-        if !self.has_variable(i) {
-            return Err(Refusal::Variable);
-        }
-        self.make(Asked::Variable(i))
+        self.answer(Task::Variable(i))
     }
 
     fn not(&mut self, a: u16) -> Result<u16, Refusal> {
-        if !self.holds(a) {
-            return Err(Refusal::Number);
-        }
-        self.make(Asked::Not(a))
+        self.answer(Task::Not(a))
     }
 
     fn and(&mut self, a: u16, b: u16) -> Result<u16, Refusal> {
-        if !self.holds(a) || !self.holds(b) {
-            return Err(Refusal::Number);
-        }
-        self.make(Asked::And(a, b))
+        self.answer(Task::Both(Op::And, a, b))
     }
 
     fn or(&mut self, a: u16, b: u16) -> Result<u16, Refusal> {
-        if !self.holds(a) || !self.holds(b) {
-            return Err(Refusal::Number);
-        }
-        self.make(Asked::Or(a, b))
+        self.answer(Task::Both(Op::Or, a, b))
     }
 
     fn cofactor(&mut self, a: u16, i: u8, t: bool) -> Result<u16, Refusal> {
-        if !self.holds(a) {
-            return Err(Refusal::Number);
-        }
-        if !self.has_variable(i) {
-            return Err(Refusal::Variable);
-        }
-        self.make(Asked::Cofactor(a, i, t))
+        self.answer(Task::Cofactor(a, i, t))
     }
 
     fn value(&mut self, a: u16, w: u32) -> Result<bool, Refusal> {
-        if !self.holds(a) {
-            return Err(Refusal::Number);
-        }
-        if w >= 1 << self.n {
-            return Err(Refusal::Variable);
-        }
+        check_value(a, w, self.held(), self.n)?;
         Ok(self.truth(a, w))
     }
 

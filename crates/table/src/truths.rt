@@ -1,14 +1,72 @@
 // One function of at most 10 variables.
+ghost use Rattle.std.specs.Prelude.{◌≡◌, ◌*◌, ◌^◌, ◌<◌, ◌≤◌};
+ghost use Rattle.store.specs.Fun.{Fn};
+ghost use Rattle.table.specs.Tables.{truth, packed, packed_truths, table, Constant, Computes};
+ghost use Rattle.table.specs.Identity.{truths_exact};
+
 use records::entry::Entry;
+use std::array;
+use store::bits::bit;
 
 // Its value at the valuation w is bit w mod 8 of byte w div 8.
-#[derive(Clone, Copy, Debug)]
+#[derive(Clone, Copy, PartialEq, Eq, Default, Debug)]
 pub struct Truths {
     pub bytes: [u8; 128],
 }
 
 impl Entry for Truths {
-    fn same(&self, other: &Truths) -> bool {
-        self.bytes == other.bytes
+    ghost exact = { truths_exact };
+}
+
+impl Truths {
+    // The table of f, of n variables.
+    pub(super) fn of<F: Fn(u32) -> bool>(n: u8, f: F) -> Truths
+        requires few { n ≤ 10 }
+        requires callable { F.IsAlwaysCallable f }
+        ensures { (g : Fn) → Computes (2 ^ n) (F.post f) g → result ≡ table n g }
+    {
+        let size = 1 << n;
+        Truths::packed(|w| w < size && f(w))
     }
+
+    // The values of f below 1024.
+    fn packed<F: Fn(u32) -> bool>(f: F) -> Truths
+        requires callable { F.IsAlwaysCallable f }
+        ensures { (g : Fn) → Computes 1024 (F.post f) g → result ≡ packed_truths g }
+    {
+        Truths {
+            bytes: array::from_fn(|j| byte(&f, j)),
+        }
+    }
+
+    // The truth at the valuation w; past the table it is false.
+    pub(super) fn at(&self, w: u32) -> bool
+        ensures { result ≡ truth self.now w }
+    {
+        let byte = self.bytes.get((w / 8) as usize).copied().unwrap_or(0);
+        bit(byte as u32, (w % 8) as u8)
+    }
+
+    // The constant that it is as a function of n variables, if it is one.
+    pub(super) fn constant(&self, n: u8) -> Option<bool>
+        requires { n ≤ 10 }
+        ensures { Constant n (truth self.now) result }
+    {
+        let first = self.at(0);
+        (1..1 << n).all(|w| self.at(w) == first).then_some(first)
+    }
+}
+
+// Byte j of those values.
+fn byte<F: Fn(u32) -> bool>(f: &F, j: usize) -> u8
+    requires below { j < 128 }
+    requires callable { F.IsAlwaysCallable f.now }
+    ensures { (g : Fn) → Computes 1024 (F.post f.now) g → result ≡ packed 8 (8 * j) g }
+{
+    let mut byte = 0;
+    // A `for`: of a fold, `fold-requires-clause-callable` stayed open, that its closure may be called at each turn.
+    for k in (0..8).rev() {
+        byte = 2 * byte + f(8 * j as u32 + k) as u8;
+    }
+    byte
 }

@@ -1,69 +1,49 @@
-use Rattle.std.proofs.Common.{Ok, sym, subst, arith}
+use Rattle.std.proofs.Common.{ℕ, Ok}
 use Rattle.std.proofs.lemmas.Result.{err_from_is_err_and}
-use Rattle.diagram.specs.Making.{Makes}
 use Rattle.diagram.proofs.Recalling.{recalled, remembered}
-use Rattle.diagram.proofs.Twofold.{low_stops, on_posed, on_under, high_stops, join_below, join_held, join_under, joined, join_stops}
+use Rattle.diagram.proofs.Twofold.{Halves, low_stops, high_stops, join_under, joined, join_stops}
 use Rattle.diagram.proofs.Diagram.+make.Goals as goal
+use Rattle.diagram.proofs.Diagram.+make.Goals.{After-half-on}
+
+halves : (t : ℕ) (c : After-half-on t) → Halves c.args.self.now c.args.task c.peak-variable.result c.half-off.result c.half-on.result
+halves t c = record {
+  posed = c.requires;
+  settled = c.in_default.ensures;
+  first = c.peak-variable.ensures;
+  low = c.half-off.ensures;
+  high = c.half-on.ensures;
+}
+
+pub returns-in_err-low : goal.returns-in_err-low
+returns-in_err-low t c =
+    let p = err_from_is_err_and c.from_residual.result c.from_residual.ensures.1 in
+    rw p.1 (low_stops _ _ _ _ _ (halves t (goal.at.returns-in_err-low t c).After-half-on) c.make.new.self c.in_err-low.field-0.0 p.0 c.in_err-low.ensures)
+
+pub returns-in_err-high : goal.returns-in_err-high
+returns-in_err-high t c =
+    let p = err_from_is_err_and c.from_residual-in_err-high.result c.from_residual-in_err-high.ensures.1 in
+    rw p.1 (high_stops _ _ _ _ _ (halves t (goal.at.returns-in_err-high t c).After-half-on) c.make.new.self c.in_ok-low.low c.in_ok-low.ensures
+    c.make-2.new.self c.in_err-high.field-0.0 p.0 c.in_err-high.ensures)
+
+pub join-requires-clause-under : goal.join-requires-clause-under
+join-requires-clause-under t c =
+    join_under _ _ _ _ _ (halves t (goal.at.join-requires-clause-under t c).After-half-on) c.make.new.self c.in_ok-low.low c.in_ok-low.ensures
+    c.make-2.new.self c.in_ok-high.high c.in_ok-high.ensures
+
+pub returns-in_err-number : goal.returns-in_err-number
+returns-in_err-number t c =
+    let p = err_from_is_err_and c.from_residual-in_err-number.result c.from_residual-in_err-number.ensures.1 in
+    rw p.1 (join_stops _ _ _ _ _ (halves t (goal.at.returns-in_err-number t c).After-half-on) c.make.new.self c.in_ok-low.low c.in_ok-low.ensures
+    c.make-2.new.self c.in_ok-high.high c.in_ok-high.ensures c.join.new.self c.in_err-number.field-0.0 p.0 c.in_err-number.ensures)
 
 pub returns-in-Some-lookup : goal.returns-in-Some-lookup
 returns-in-Some-lookup t c = recalled c.args.self.now c.args.task c.in-Some-lookup.number c.in-Some-lookup.ensures
 
-pub returns-in_err-low : goal.returns-in_err-low
-returns-in_err-low t c =
-    let d = c.args.self.now in
-    let p = err_from_is_err_and c.from_residual.result c.from_residual.ensures.1 in
-    subst (λ r. Makes d c.args.task r c.make.new.self) (sym p.1)
-    (low_stops d c.args.task c.requires c.in_default.ensures c.peak-variable.result c.peak-variable.ensures c.half-off.result c.half-on.result c.half-off.ensures c.half-on.ensures
-    c.make.new.self c.in_err-low.field-0.0 p.0 c.in_err-low.ensures)
-
-pub make-requires-2 : goal.make-requires-2
-make-requires-2 t c =
-    let d = c.args.self.now in
-    let m = c.in_ok-low.ensures in
-    let u = on_under d c.args.task c.requires c.in_default.ensures c.peak-variable.result c.peak-variable.ensures c.half-off.result c.half-on.result c.half-off.ensures c.half-on.ensures
-    c.make.new.self c.in_ok-low.low m in (
-      omega (arith, u, m.vars, c.peak-variable.ensures, c.in_default.ensures.0),
-      on_posed d c.args.task c.requires c.in_default.ensures c.peak-variable.result c.peak-variable.ensures c.half-off.result c.half-on.result c.half-off.ensures c.half-on.ensures
-          c.make.new.self c.in_ok-low.low m,
-    )
-
-pub returns-in_err-high : goal.returns-in_err-high
-returns-in_err-high t c =
-    let d = c.args.self.now in
-    let p = err_from_is_err_and c.from_residual-in_err-high.result c.from_residual-in_err-high.ensures.1 in
-    subst (λ r. Makes d c.args.task r c.make-2.new.self) (sym p.1)
-    (high_stops d c.args.task c.requires c.in_default.ensures c.peak-variable.result c.peak-variable.ensures c.half-off.result c.half-on.result c.half-off.ensures c.half-on.ensures
-    c.make.new.self c.in_ok-low.low c.in_ok-low.ensures
-    c.make-2.new.self c.in_err-high.field-0.0 p.0 c.in_err-high.ensures)
-
-pub join-requires : goal.join-requires
-join-requires t c =
-    let d = c.args.self.now in
-    record {
-      below = join_below d c.args.task c.requires c.in_default.ensures c.peak-variable.result c.peak-variable.ensures c.half-off.result c.half-on.result c.half-off.ensures c.half-on.ensures
-          c.make.new.self c.in_ok-low.low c.in_ok-low.ensures c.make-2.new.self c.in_ok-high.high c.in_ok-high.ensures;
-      held = join_held d c.args.task c.requires c.in_default.ensures c.peak-variable.result c.peak-variable.ensures c.half-off.result c.half-on.result c.half-off.ensures c.half-on.ensures
-          c.make.new.self c.in_ok-low.low c.in_ok-low.ensures c.make-2.new.self c.in_ok-high.high c.in_ok-high.ensures;
-      under = join_under d c.args.task c.requires c.in_default.ensures c.peak-variable.result c.peak-variable.ensures c.half-off.result c.half-on.result c.half-off.ensures c.half-on.ensures
-          c.make.new.self c.in_ok-low.low c.in_ok-low.ensures c.make-2.new.self c.in_ok-high.high c.in_ok-high.ensures;
-    }
-
-pub returns-in_err-number : goal.returns-in_err-number
-returns-in_err-number t c =
-    let d = c.args.self.now in
-    let p = err_from_is_err_and c.from_residual-in_err-number.result c.from_residual-in_err-number.ensures.1 in
-    subst (λ r. Makes d c.args.task r c.join.new.self) (sym p.1)
-    (join_stops d c.args.task c.requires c.in_default.ensures c.peak-variable.result c.peak-variable.ensures c.half-off.result c.half-on.result c.half-off.ensures c.half-on.ensures
-    c.make.new.self c.in_ok-low.low c.in_ok-low.ensures c.make-2.new.self c.in_ok-high.high c.in_ok-high.ensures
-    c.join.new.self c.in_err-number.field-0.0 p.0 c.in_err-number.ensures)
-
 pub invariant_of-self : goal.invariant_of-self
 invariant_of-self t c =
     let e = c.join.new.self in
-    let r = Ok c.in_ok-number.number in
-    let m = joined c.args.self.now c.args.task c.requires c.in_default.ensures c.peak-variable.result c.peak-variable.ensures c.half-off.result c.half-on.result c.half-off.ensures c.half-on.ensures
-    c.make.new.self c.in_ok-low.low c.in_ok-low.ensures c.make-2.new.self c.in_ok-high.high c.in_ok-high.ensures
-    e r c.in_ok-number.ensures in
+    let m = joined _ _ _ _ _ (halves t (goal.at.invariant_of-self t c).After-half-on) c.make.new.self c.in_ok-low.low c.in_ok-low.ensures
+    c.make-2.new.self c.in_ok-high.high c.in_ok-high.ensures e (Ok c.in_ok-number.number) c.in_ok-number.ensures in
     record {
       some = e.some;
       wide = e.wide;
@@ -74,7 +54,6 @@ invariant_of-self t c =
 
 pub returns : goal.returns
 returns t c =
-    let m = joined c.args.self.now c.args.task c.requires c.in_default.ensures c.peak-variable.result c.peak-variable.ensures c.half-off.result c.half-on.result c.half-off.ensures c.half-on.ensures
-    c.make.new.self c.in_ok-low.low c.in_ok-low.ensures c.make-2.new.self c.in_ok-high.high c.in_ok-high.ensures
-    c.join.new.self (Ok c.in_ok-number.number) c.in_ok-number.ensures in
+    let m = joined _ _ _ _ _ (halves t (goal.at.returns t c).After-half-on) c.make.new.self c.in_ok-low.low c.in_ok-low.ensures
+    c.make-2.new.self c.in_ok-high.high c.in_ok-high.ensures c.join.new.self (Ok c.in_ok-number.number) c.in_ok-number.ensures in
     record { vars = m.vars; capacity = m.capacity; outcome = m.outcome }

@@ -1,29 +1,13 @@
-use Rattle.std.proofs.Common.{◌≡◌, not, sym, subst}
-use mir.Val.{bool_byte}
-use Rattle.diagram.specs.declared.task.Task.{Task}
-use Rattle.diagram.specs.declared.task.Task.TheVariants.{Not, Cofactor}
-use Rattle.diagram.specs.Asked.{peak, Posed, Before}
-use Rattle.diagram.specs.Making.{HalvedTask}
-use Rattle.diagram.specs.Shows.{listed, showing}
 use Rattle.diagram.proofs.Tasks.{half_variable, half_cofactor}
 use Rattle.diagram.proofs.Diagram.half.Goals as goal
 
 pub returns-in-Variable : goal.returns-in-Variable
 returns-in-Variable c =
-    let d = c.args.self.now in
-    let v = c.args.variable in
-    let i = c.in-Variable.field-0 in
     let is = c.in-Variable.is in
-    subst (λ (k : Task). HalvedTask d k v c.args.t (Not (bool_byte (not c.args.t)))) (sym is)
-    (half_variable d i v (subst (λ (k : Task). v ≡ peak d.n (listed d) k) is c.requires.first) c.requires.below c.args.t)
+    rw (is, c.from.ensures) (half_variable c.args.self.now c.in-Variable.field-0 c.args.variable (rw is at c.requires.first) c.requires.below c.args.t)
 
 pub returns-in-Cofactor : goal.returns-in-Cofactor
 returns-in-Cofactor c =
-    let d = c.args.self.now in
-    let v = c.args.variable in
     let is = c.in-Cofactor.is in
-    let r = c.child-in-Cofactor.result in
-    let i = c.in-Cofactor.i in
-    let u = c.in-Cofactor.u in
-    subst (λ (k : Task). HalvedTask d k v c.args.t (Cofactor r i u)) (sym is)
-    (half_cofactor d c.in-Cofactor.a i u v c.args.t r (subst (Posed (showing d)) is c.requires.posed) (subst (Before v) is c.requires.before) c.child-in-Cofactor.ensures)
+    rw is (half_cofactor c.args.self.now c.in-Cofactor.a c.in-Cofactor.i c.in-Cofactor.u c.args.variable c.args.t c.child-in-Cofactor.result
+    (rw is at c.requires.posed) (rw is at c.requires.before) c.child-in-Cofactor.ensures)

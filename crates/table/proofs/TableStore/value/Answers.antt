@@ -1,55 +1,20 @@
-use Rattle.std.proofs.Common.{◌^◌, ◌≤◌, Ok, sym, refl, ap, arith, pow_mono}
-use Rattle.std.proofs.lemmas.Nat.{one_shl}
-use Rattle.std.proofs.lemmas.Bool.{both_ways}
-use Rattle.table.proofs.Calls.{lawful_table}
+use Rattle.std.proofs.Common.{◌^◌, nat_lt, sym, ap, ◌∙◌}
+use Rattle.std.proofs.lemmas.Result.{err_from_is_err_and}
+use Rattle.store.specs.Tasks.{allowed}
+use Rattle.store.proofs.Replies.{value_refused, value_told}
+use Rattle.table.specs.Replies.{shows}
+use Rattle.table.proofs.Lawful.{lawful_table}
 use Rattle.table.proofs.TableStore.value.Goals as goal
 
-pub returns-then-not-holds : goal.returns-then-not-holds
-returns-then-not-holds c =
-    let no = sym c.if-not-holds.ensures in
-    record {
-      same = refl;
-      told = record {
-        lawful = lawful_table c.args.self.now;
-        number = λ _. refl;
-        variable = λ y _. absurd (both_ways _ no y);
-        value = λ y _. absurd (both_ways _ no y);
-      };
-    }
-
-pub returns-then-w-self : goal.returns-then-w-self
-returns-then-w-self c =
+pub returns-in_err-check_value-clause-told : goal.returns-in_err-check_value-clause-told
+returns-in_err-check_value-clause-told c =
     let d = c.args.self.now in
-    let p = one_shl d.n 32 (omega (arith, d.few)) in
-    let yes = sym c.if-not-holds.ensures in
-    record {
-      same = refl;
-      told = record {
-        lawful = lawful_table d;
-        number = λ n. absurd (both_ways _ n yes);
-        variable = λ _ _. refl;
-        value = λ _ l. absurd (omega (arith, p, c.if-w-self.true));
-      };
-    }
+    let p = err_from_is_err_and c.from_residual.result c.from_residual.ensures.1 in
+    let e = ap (λ h. allowed (nat_lt c.args.a h) (nat_lt c.args.w (2 ^ d.n))) (sym c.held.ensures) ∙ sym c.check_value.ensures ∙ c.in_err-check_value.was in
+    rw (p.1, p.2) (value_refused (shows d) c.args.a c.args.w _ (lawful_table d) e)
 
-pub truth-requires : goal.truth-requires
-truth-requires c =
+pub returns-clause-told : goal.returns-clause-told
+returns-clause-told c =
     let d = c.args.self.now in
-    let p = one_shl d.n 32 (omega (arith, d.few)) in
-    let q : 2 ^ d.n ≤ 2 ^ 10 = pow_mono d.few in
-    omega (arith, p, c.if-w-self.false)
-
-pub returns : goal.returns
-returns c =
-    let d = c.args.self.now in
-    let p = one_shl d.n 32 (omega (arith, d.few)) in
-    let yes = sym c.if-not-holds.ensures in
-    record {
-      same = refl;
-      told = record {
-        lawful = lawful_table d;
-        number = λ n. absurd (both_ways _ n yes);
-        variable = λ _ l. absurd (omega (arith, p, c.if-w-self.false));
-        value = λ _ _. ap Ok c.truth.ensures;
-      };
-    }
+    let e = ap (λ h. allowed (nat_lt c.args.a h) (nat_lt c.args.w (2 ^ d.n))) (sym c.held.ensures) ∙ sym c.check_value.ensures ∙ c.in_ok-check_value.was in
+    value_told (shows d) c.args.a c.args.w c.truth.result (lawful_table d) e c.truth.ensures

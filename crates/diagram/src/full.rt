@@ -1,3 +1,0 @@
-// No record is left.
-#[derive(Clone, Copy)]
-pub struct Full;
