@@ -1,5 +1,10 @@
 -- A list that holds each number below n once is a permutation of these.
-use Rattle.std.proofs.Common.{◌≡◌, ℕ, zero, suc, ◌+◌, ◌<◌, ◌≤◌, true, false, cond, eqb, ltb, List, [], ◌∷◌, length, get_or, Decides, count_by, sym, refl, ap, ◌∙◌, subst, ⊎_elim, arith}
+use Rattle.std.proofs.Common.{◌≡◌, ℕ, zero, suc, ◌+◌, ◌<◌, ◌≤◌, true, false, Bool, ◌&&◌, cond, eqb, ltb, List, [], ◌∷◌, ◌++◌, length, get_or, Decides, count_by, map, add-one, sym, refl, ap, ◌∙◌, subst, ⊎_elim, arith}
+use Rattle.std.specs.List.{range_with_len, list_all}
+use Rattle.std.proofs.lemmas.List.{map-id}
+use Rattle.std.proofs.Math.Bool.{and_comm, and-true}
+use Rattle.std.proofs.lemmas.List.FromFn.{map-range_with_len_more}
+use Rattle.std.proofs.lemmas.List.Folds.{list_all-append}
 use Rattle.std.proofs.lemmas.List.Sums.{sum_by-cons, count_by-le-length}
 use Rattle.std.proofs.lemmas.Bool.{cases_eq, eq-eqb, ne_eqb, lt-ltb, le-ltb, cases_lt, cases_Bool, not-true, and_from, and_left, and_right, cond-true, cond-false}
 use Rattle.std.proofs.lemmas.Bool.Decides.{Decides-below_and, Decides-eqb, Decides-and, Decides-not, nat_tests}
@@ -11,6 +16,22 @@ pub is_order_tells : (n : ℕ) (xs : List ℕ) → Decides (is_order n xs) ((len
 unfolding is_order
 is_order_tells n xs = Decides-and _ _ (Decides-eqb (length xs) n)
     (Decides-below_and (λ j. eqb (times j xs) 1) (λ j. times j xs ≡ 1) (each (λ j. eqb (times j xs) 1)) (λ j. Decides-eqb (times j xs) 1) refl (λ _. refl) n)
+
+-- the numbers below n + 1 in their order: those below n, and n
+pub range_more : (n : ℕ) → range_with_len 0 (suc n) ≡ range_with_len 0 n ++ n ∷ []
+range_more n = sym (map-id (range_with_len 0 (suc n))) ∙ ap (λ k. map (λ x. x) (range_with_len 0 k)) (sym (add-one n)) ∙ map-range_with_len_more (λ x. x) 0 n n (omega arith) ∙ ap (λ xs. xs ++ n ∷ []) (map-id (range_with_len 0 n))
+
+-- a test of each number below n is one of the numbers in their order
+pub each_range : (p : ℕ → Bool) (n : ℕ) → list_all p (range_with_len 0 n) ≡ each p n
+each_range p zero = refl
+each_range p (suc n) = ap (list_all p) (range_more n) ∙ list_all-append p (range_with_len 0 n) (n ∷ []) ∙ rw (each_range p n) (ap (λ b. each p n && b) (and-true (p n)) ∙ and_comm (each p n) (p n))
+
+pub short : (n : ℕ) (xs : List ℕ) → is_order n xs ≡ true → n ≤ 24 → 24 < length xs → ⊥
+short n xs e h l = omega (arith, ((is_order_tells n xs).0 e).0)
+
+-- an order is one of as many variables as it is long
+pub order_itself : (n : ℕ) (xs ys : List ℕ) → is_order n xs ≡ true → ys ≡ xs → is_order (length ys) ys ≡ true
+order_itself n xs ys e h = subst (λ (zs : List ℕ). is_order (length zs) zs ≡ true) (sym h) (ap (λ k. is_order k xs) ((is_order_tells n xs).0 e).0 ∙ e)
 
 -- p takes each number below n once
 pub record Permutes (n : ℕ) (p : ℕ → ℕ) : Type 0 where
@@ -124,3 +145,6 @@ permutes_order n xs = ⊎_elim
       each = λ j h. (j, (h, is j));
     })
     (cases_Bool (is_order n xs))
+
+pub order_below : (n : ℕ) (xs : List ℕ) (i : ℕ) → i < n → order_of n xs i < n
+order_below n xs i h = (permutes_order n xs).within i h

@@ -1,12 +1,33 @@
 -- Valuations under a permutation of the variables.
-use Rattle.std.proofs.Common.{◌≡◌, ℕ, zero, suc, ◌^◌, ◌<◌, ◌≤◌, Bool, sym, ap, ◌∙◌, subst, ⊎_elim, arith}
-use Rattle.std.proofs.lemmas.Bool.{cases_eq}
+use Rattle.std.proofs.Common.{◌≡◌, ℕ, zero, suc, ◌^◌, ◌<◌, ◌≤◌, Bool, cond, ltb, [], ◌∷◌, refl, sym, ap, ap₂, ◌∙◌, subst, ⊎_elim, arith}
+use Rattle.std.proofs.lemmas.Bool.{cases_eq, cases_lt, lt-ltb, le-ltb, cond-true, cond-false}
+use Rattle.std.specs.List.{range_with_len, fold}
+use Rattle.std.proofs.lemmas.List.Sums.{fold-append}
 use Rattle.store.specs.Fun.{Fn, bit, fixed, fix, Same}
 use Rattle.store.proofs.Bit.{bit_fixed_same, bit_fixed_other, fixed_lt}
 use Rattle.order.specs.Renaming.{placed, taken, above, below}
 use Rattle.order.specs.Facts.{StandsFor}
 use Rattle.order.proofs.Bits.{bit_ext, fixed_ge}
-use Rattle.order.proofs.Lists.{Permutes}
+use Rattle.order.proofs.Lists.{range_more, Permutes}
+
+-- what `with_bit` answers
+abbrev pub put : ℕ → Bool → ℕ → ℕ
+put i t v = cond (ltb i 32) (fixed i t v) v
+
+pub put_is : {j i : ℕ} {t u : Bool} (v r : ℕ) → j ≡ i → t ≡ u → (j < 32 → r ≡ fixed j t v) → (32 ≤ j → r ≡ v) → r ≡ put i u v
+put_is {j} {i} {t} {u} v r e b within past = ⊎_elim
+    (λ h. within h ∙ sym (cond-true _ (fixed j t v) v (lt-ltb j 32 h)))
+    (λ h. past h ∙ sym (cond-false _ (fixed j t v) v (le-ltb j 32 h)))
+    (cases_lt j 32)
+    ∙ ap₂ (λ k c. put k c v) e b
+
+-- the valuation below, made bit after bit
+pub placed_range : (p : ℕ → ℕ) (n w : ℕ) → ((i : ℕ) → i < n → p i < 32) → fold (λ v i. put (p i) (bit i w) v) w (range_with_len 0 n) ≡ placed p n w
+placed_range p zero w h = refl
+placed_range p (suc n) w h =
+    ap (fold (λ v i. put (p i) (bit i w) v) w) (range_more n) ∙ fold-append _ w (range_with_len 0 n) (n ∷ [])
+    ∙ ap (put (p n) (bit n w)) (placed_range p n w (λ i l. h i (omega arith)))
+    ∙ cond-true _ (fixed (p n) (bit n w) (placed p n w)) (placed p n w) (lt-ltb (p n) 32 (h n (omega arith)))
 
 bit_taken : (p : ℕ → ℕ) (m i v : ℕ) → i < m → bit i (taken p m v) ≡ bit (p i) v
 bit_taken p zero i v h = absurd (omega arith)

@@ -1,7 +1,7 @@
 // A store over any store: its variable i is variable p(i) below, and all else is as below with the variables so renamed.
 #![tactic(auto)]
 
-ghost use Rattle.std.specs.Prelude.{◌≡◌, take};
+ghost use Rattle.std.specs.Prelude.{◌≡◌};
 ghost use Rattle.order.specs.Listing.{is_order, order_of, verdict};
 ghost use Rattle.order.specs.Renaming.{ordered};
 ghost use Rattle.order.specs.Facts.{Reorders};
@@ -34,20 +34,17 @@ pub fn check<S: Store>(store: &mut S, p: &[u8]) -> Result<(), Unfit>
 impl<S: Store> Layer<S> {
     // The store under the order p; under the order of its variables, where p is none.
     pub fn new(mut store: S, p: &[u8]) -> Layer<S>
-        ensures shows { ordered (take result.order.count result.order.places) (S.Store.shows result.store) ≡ ordered p.now (S.Store.shows store) }
+        ensures shows { ordered result.order.places.items (S.Store.shows result.store) ≡ ordered p.now (S.Store.shows store) }
         ensures reorders { Reorders (order_of (S.Store.shows store).vars p.now) (S.Store.shows store) (ordered p.now (S.Store.shows store)) }
     {
         let n = store.figures().variables;
-        let order = match Order::of(n, p) {
-            Some(order) => order,
-            None => Order::empty(),
-        };
+        let order = Order::of(n, p).unwrap_or_default();
         Layer { store, order }
     }
 }
 
 impl<S: Store> Store for Layer<S> {
-    ghost shows = { λ l. ordered (take l.order.count l.order.places) (S.Store.shows l.store) };
+    ghost shows = { λ l. ordered l.order.places.items (S.Store.shows l.store) };
 
     fn variable(&mut self, i: u8) -> Result<u16, Refusal> {
         let n = self.store.figures().variables;

@@ -1,99 +1,71 @@
 // The order of a layer's variables, in a fixed array.
-ghost use Rattle.std.specs.Prelude.{◌≡◌, ◌<◌, ◌≤◌, true, false, [], take, MatchOption};
-ghost use Rattle.store.specs.Fun.{fixed};
+ghost use Rattle.std.specs.Prelude.{◌≡◌, ◌≤◌, true, false, [], length, MatchOption};
 ghost use Rattle.order.specs.Listing.{times, is_order, order_of};
 ghost use Rattle.order.specs.Renaming.{placed};
 
-// The first `count` places hold each number below `count` once.
-#[derive(Clone, Copy)]
+use arrayvec::ArrayVec;
+use store::bits::{bit, with_bit};
+
+// The places hold each number below their count once.
+#[derive(Drop)]
 pub(super) struct Order {
-    count: u8,
-    places: [u8; 24],
-    ghost few: { count ≤ 24 },
-    ghost once: { is_order count (take count places) ≡ true },
+    places: ArrayVec<u8, 24>,
+    ghost once: { is_order (length places.items) places.items ≡ true },
 }
 
 // How often j stands in the list.
 fn times(p: &[u8], j: u8) -> usize
     ensures { result ≡ times j p.now }
 {
-    let mut n = 0;
-    for x in p {
-        if *x == j {
-            n += 1;
-        }
-    }
-    n
+    p.iter().filter(|x| **x == j).count()
 }
 
 // Whether the list holds each number below n once, and no other.
 pub(super) fn is_order(n: u8, p: &[u8]) -> bool
     ensures { result ≡ is_order n p.now }
 {
-    if p.len() != n as usize {
-        return false;
-    }
-    for j in 0..n {
-        if times(p, j) != 1 {
-            return false;
-        }
-    }
-    true
+    p.len() == n as usize && (0..n).all(|j| times(p, j) == 1)
 }
 
-// v with its bit i set to t.
-fn with_bit(v: u32, i: u8, t: bool) -> u32
-    requires { i < 32 }
-    ensures { result ≡ fixed i t v }
-{
-    if t { v | 1 << i } else { v & !(1 << i) }
+// The order of no variables. A struct with a ghost field derives no Default.
+impl Default for Order {
+    ghost is_default = { λ o. o.places.items ≡ [] };
+
+    fn default() -> Self {
+        Order {
+            places: ArrayVec::new(),
+        }
+    }
 }
 
 impl Order {
     // The list as an order of n variables.
     pub(super) fn of(n: u8, p: &[u8]) -> Option<Order>
         requires { n ≤ 24 }
-        ensures { MatchOption result (is_order n p.now ≡ false) (λ o. (is_order n p.now ≡ true) × (take o.count o.places ≡ p.now)) }
+        ensures { MatchOption result (is_order n p.now ≡ false) (λ o. (is_order n p.now ≡ true) × (o.places.items ≡ p.now)) }
     {
         if !is_order(n, p) {
             return None;
         }
-        let mut places = [0; 24];
-        for (i, x) in p.iter().enumerate() {
-            places[i] = *x;
-        }
-        Some(Order { count: n, places })
-    }
-
-    // The order of no variables.
-    pub(super) fn empty() -> Order
-        ensures { take result.count result.places ≡ [] }
-    {
-        Order {
-            count: 0,
-            places: [0; 24],
-        }
+        let places = ArrayVec::try_from(p).ok()?;
+        Some(Order { places })
     }
 
     // The variable below for variable i, of n.
     pub(super) fn variable_below(&self, n: u8, i: u8) -> u8
-        ensures { result ≡ order_of n (take self.now.count self.now.places) i }
+        ensures { result ≡ order_of n self.now.places.items i }
     {
-        if n != self.count || i >= n {
+        if self.places.len() != n as usize {
             return i;
         }
-        self.places[i as usize]
+        self.places.get(i as usize).copied().unwrap_or(i)
     }
 
     // The valuation below for w, of n variables.
     pub(super) fn valuation_below(&self, n: u8, w: u32) -> u32
         requires { n ≤ 24 }
-        ensures { result ≡ placed (order_of n (take self.now.count self.now.places)) n w }
+        ensures { result ≡ placed (order_of n self.now.places.items) n w }
     {
-        let mut v = w;
-        for i in 0..n {
-            v = with_bit(v, self.variable_below(n, i), (w >> i) % 2 == 1);
-        }
-        v
+        (0..n).fold(w, |v, i| with_bit(v, self.variable_below(n, i), bit(w, i)))
     }
 }

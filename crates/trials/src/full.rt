@@ -1,4 +1,5 @@
 // Stores of 65,534 records, filled to the last one.
+use super::stores::TRUTHS;
 use diagram::Diagram;
 use diagram::making::check as check_diagram;
 use nodes::Node;
@@ -8,7 +9,6 @@ use std::test::Fail;
 use store::Store;
 use store::refusal::{Refusal, Unfit};
 use table::Table;
-use table::truths::Truths;
 
 const MOST: usize = 65534;
 
@@ -42,11 +42,7 @@ fn fill<S: Store>(rt: &impl Abort, store: &mut S, heap: Global) -> Result<u16, F
 
 #[test]
 fn full_diagram(rt: HostRuntime) -> Result<(), Fail> {
-    let mut records = vec![in rt.alloc(); Node {
-        variable: 0,
-        low: 0,
-        high: 0
-    }; MOST + 1]?;
+    let mut records = vec![in rt.alloc(); Node::default(); MOST + 1]?;
     assert_eq!(rt; check_diagram(15, &records), Err(Unfit::Store));
     records.truncate(MOST);
     let mut store = Diagram::new(15, &mut records);
@@ -55,9 +51,7 @@ fn full_diagram(rt: HostRuntime) -> Result<(), Fail> {
     assert_eq!(rt; store.figures().used, 65534);
     let mut held = false;
     for w in 0..32768 {
-        if store.value(last, w)? {
-            held = true;
-        }
+        held |= store.value(last, w)?;
     }
     assert!(rt; held);
     Ok(())
@@ -71,9 +65,9 @@ fn cells<S: Store>(store: &mut S, heap: Global) -> Result<Vec<u16>, Fail> {
         let on = store.variable(i)?;
         let off = store.not(on)?;
         let mut finer = Vec::new(heap);
-        for cell in cells.iter() {
-            finer.push(store.and(off, *cell)?)?;
-            finer.push(store.and(on, *cell)?)?;
+        for cell in cells {
+            finer.push(store.and(off, cell)?)?;
+            finer.push(store.and(on, cell)?)?;
         }
         cells = finer;
     }
@@ -83,21 +77,19 @@ fn cells<S: Store>(store: &mut S, heap: Global) -> Result<Vec<u16>, Fail> {
 // Every function of 4 variables, as a union of cells: with the constants they are all 65,536 numbers.
 #[test]
 fn full_table(rt: HostRuntime) -> Result<(), Fail> {
-    let mut records = vec![in rt.alloc(); Truths { bytes: [0; 128] }; MOST]?;
+    let mut records = vec![in rt.alloc(); TRUTHS; MOST]?;
     let mut store = Table::new(4, &mut records);
     let cells = cells(&mut store, rt.alloc())?;
     let mut unions = Vec::new(rt.alloc());
     unions.push(0)?;
-    for cell in cells.iter() {
-        let count = unions.len();
-        for k in 0..count {
-            let union = unions.get(k).copied().unwrap_or(0);
-            unions.push(store.or(union, *cell)?)?;
+    for cell in cells {
+        for union in unions.clone()? {
+            unions.push(store.or(union, cell)?)?;
         }
     }
     assert_eq!(rt; unions.len(), 65536);
     assert_eq!(rt; unions.last().copied(), Some(1));
     assert_eq!(rt; store.figures().used, 65534);
-    assert_eq!(rt; store.not(65535).is_ok(), true);
+    assert!(rt; store.not(65535).is_ok());
     Ok(())
 }

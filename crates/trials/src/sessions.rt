@@ -1,4 +1,5 @@
 // Sessions over every make of store and layers over them.
+use super::stores::TRUTHS;
 use diagram::Diagram;
 use engine::session::Session;
 use making::fault::Fault;
@@ -8,16 +9,7 @@ use std::process::Abort;
 use std::test::Fail;
 use store::Store;
 use table::Table;
-use table::truths::Truths;
 use uses::verdict::Verdict;
-
-const NODE: Node = Node {
-    variable: 0,
-    low: 0,
-    high: 0,
-};
-
-const TRUTHS: Truths = Truths { bytes: [0; 128] };
 
 const ORDER: [u8; 10] = [9, 3, 0, 7, 1, 8, 2, 6, 5, 4];
 
@@ -65,15 +57,16 @@ fn search<S: Store + Drop>(store: S, case: Case) -> Result<Told, Fault> {
     let mut states = [7; 4];
     let mut inputs = [7; 4];
     let mut inside = 0;
-    if let Verdict::Unsafe(_) = verdict {
-        session.trace(&mut states, &mut inputs)?;
-    }
-    if let Verdict::Safe = verdict {
-        for q in 0..4u16 {
-            if let Ok(true) = session.inside(q) {
-                inside |= 1 << q;
+    match verdict {
+        Verdict::Unsafe(_) => {
+            session.trace(&mut states, &mut inputs)?;
+        }
+        Verdict::Safe => {
+            for q in 0..4 {
+                inside |= u16::from(session.inside(q).unwrap_or(false)) << q;
             }
         }
+        _ => {}
     }
     Ok(Told {
         verdict,
@@ -84,18 +77,20 @@ fn search<S: Store + Drop>(store: S, case: Case) -> Result<Told, Fault> {
     })
 }
 
-fn layered<S: Store + Drop>(store: S, case: Case) -> Result<Told, Fault> {
-    search(Layer::new(store, &ORDER), case)
-}
-
 // Whether a search in each store comes to this.
 fn agree(rt: &impl Abort, case: Case, told: Told) -> Result<(), Fail> {
-    let mut nodes = [NODE; 300];
+    let mut nodes = [Node::default(); 300];
     let mut tables = [TRUTHS; 100];
     assert_eq!(rt; search(Diagram::new(10, &mut nodes), case)?, told);
     assert_eq!(rt; search(Table::new(10, &mut tables), case)?, told);
-    assert_eq!(rt; layered(Diagram::new(10, &mut nodes), case)?, told);
-    assert_eq!(rt; layered(Table::new(10, &mut tables), case)?, told);
+    assert_eq!(rt;
+        search(Layer::new(Diagram::new(10, &mut nodes), &ORDER), case)?,
+        told
+    );
+    assert_eq!(rt;
+        search(Layer::new(Table::new(10, &mut tables), &ORDER), case)?,
+        told
+    );
     Ok(())
 }
 
@@ -157,12 +152,10 @@ fn stores_agree(rt: HostRuntime) -> Result<(), Fail> {
     agree(&rt, case, unsafe_at(2, [0, 1, 2, 7], [1, 0, 0, 7]))
 }
 
-// The number, the part and the place of what a search is refused for, or zeros.
-fn refusal<S: Store + Drop>(store: S, case: Case) -> (u8, u8, usize) {
-    match search(store, case) {
-        Ok(_) => (0, 0, 0),
-        Err(fault) => (fault.number(), fault.part(), fault.place()),
-    }
+// The number, the part and the place of what a search is refused for.
+fn refusal<S: Store + Drop>(store: S, case: Case) -> Option<(u8, u8, usize)> {
+    let fault = search(store, case).err()?;
+    Some((fault.number(), fault.part(), fault.place()))
 }
 
 // Each function that is new takes one of the table's records, so that each of them is refused in its turn.
@@ -203,11 +196,11 @@ fn room_in_every_part(rt: HostRuntime) -> Result<(), Fail> {
         let mut tables = vec![in rt.alloc(); TRUTHS; records]?;
         assert_eq!(rt;
             refusal(Table::new(10, &mut tables), case),
-            (10, *part, *place)
+            Some((10, *part, *place))
         );
     }
     let mut tables = [TRUTHS; 24];
-    assert_eq!(rt; refusal(Table::new(10, &mut tables), case), (0, 0, 0));
+    assert_eq!(rt; refusal(Table::new(10, &mut tables), case), None);
     Ok(())
 }
 
@@ -248,7 +241,7 @@ fn safe_calls<S: Store + Drop>(rt: &impl Abort, store: S) {
 
 #[test]
 fn calls_out_of_turn(rt: HostRuntime) {
-    let mut nodes = [NODE; 100];
+    let mut nodes = [Node::default(); 100];
     let mut tables = [TRUTHS; 50];
     calls(&rt, Diagram::new(3, &mut nodes));
     calls(&rt, Table::new(3, &mut tables));

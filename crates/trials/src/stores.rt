@@ -3,6 +3,7 @@ use diagram::Diagram;
 use diagram::making::check as check_diagram;
 use nodes::Node;
 use order::{Layer, check as check_order};
+use std::alloc::Global;
 use std::process::Abort;
 use std::test::Fail;
 use store::Store;
@@ -11,13 +12,7 @@ use store::refusal::{Refusal, Unfit};
 use table::truths::Truths;
 use table::{Table, check as check_table};
 
-const NODE: Node = Node {
-    variable: 0,
-    low: 0,
-    high: 0,
-};
-
-const TRUTHS: Truths = Truths { bytes: [0; 128] };
+pub(super) const TRUTHS: Truths = Truths { bytes: [0; 128] };
 
 const ORDER: [u8; 4] = [2, 0, 3, 1];
 
@@ -26,8 +21,8 @@ const STEPS: usize = 96;
 // The truths of a function of 4 variables at their 16 valuations, as bits.
 fn truths<S: Store>(store: &mut S, a: u16) -> Result<u16, Refusal> {
     let mut bits = 0;
-    for w in 0..16u32 {
-        bits = bits >> 1 | if store.value(a, w)? { 0x8000 } else { 0 };
+    for w in 0..16 {
+        bits |= u16::from(store.value(a, w)?) << w;
     }
     Ok(bits)
 }
@@ -37,11 +32,11 @@ fn next(seed: u32) -> u32 {
     seed.wrapping_mul(1103515245).wrapping_add(12345)
 }
 
-// A making call on the first `count` results, as the seed says.
-fn make<S: Store>(store: &mut S, seed: u32, made: &[u16], count: usize) -> Result<u16, Refusal> {
-    let count = made.len().min(count);
-    if count == 0 {
-        return store.variable(0);
+// The 4 variables, and then a making call on what is made so far, as the seed says.
+fn make<S: Store>(store: &mut S, seed: u32, made: &[u16]) -> Result<u16, Refusal> {
+    let count = made.len();
+    if count < 4 {
+        return store.variable(count as u8);
     }
     let a = made[seed as usize / 16 % count];
     let b = made[seed as usize / 4096 % count];
@@ -56,53 +51,46 @@ fn make<S: Store>(store: &mut S, seed: u32, made: &[u16], count: usize) -> Resul
 }
 
 // The truths of all that is made, step after step.
-fn drive<S: Store>(store: &mut S) -> Result<[u16; STEPS], Refusal> {
-    let mut made = [0; STEPS];
-    let mut told = [0; STEPS];
+fn driven<S: Store + Drop>(mut store: S, heap: Global) -> Result<Vec<u16>, Fail> {
+    let mut made = Vec::new(heap);
+    let mut told = Vec::new(heap);
     let mut seed = 1;
-    for k in 0..STEPS {
-        let a = if k < 4 {
-            store.variable(k as u8)?
-        } else {
-            make(store, seed, &made, k)?
-        };
-        made[k] = a;
-        told[k] = truths(store, a)?;
+    for _ in 0..STEPS {
+        let a = make(&mut store, seed, &made)?;
+        made.push(a)?;
+        told.push(truths(&mut store, a)?)?;
         seed = next(seed);
     }
     Ok(told)
 }
 
-fn driven<S: Store + Drop>(store: S) -> Result<[u16; STEPS], Refusal> {
-    let mut store = store;
-    drive(&mut store)
-}
-
-fn layered<S: Store + Drop>(store: S) -> Result<[u16; STEPS], Refusal> {
-    driven(Layer::new(store, &ORDER))
-}
-
-fn piled<S: Store + Drop>(store: S) -> Result<[u16; STEPS], Refusal> {
-    layered(Layer::new(store, &ORDER))
+fn layer<S: Store>(store: S) -> Layer<S> {
+    Layer::new(store, &ORDER)
 }
 
 #[test]
 fn makes_agree(rt: HostRuntime) -> Result<(), Fail> {
-    let mut nodes = [NODE; 300];
+    let heap = rt.alloc();
+    let mut nodes = [Node::default(); 300];
     let mut tables = [TRUTHS; 100];
-    let told = driven(Diagram::new(4, &mut nodes))?;
-    assert_eq!(rt; told[2], 0xf0f0);
-    assert_eq!(rt; driven(Table::new(4, &mut tables))?, told);
-    assert_eq!(rt; layered(Diagram::new(4, &mut nodes))?, told);
-    assert_eq!(rt; layered(Table::new(4, &mut tables))?, told);
-    assert_eq!(rt; piled(Diagram::new(4, &mut nodes))?, told);
-    assert_eq!(rt; piled(Table::new(4, &mut tables))?, told);
+    let told = driven(Diagram::new(4, &mut nodes), heap)?;
+    assert_eq!(rt; told.get(2).copied(), Some(0xf0f0));
+    assert_eq!(rt; driven(Table::new(4, &mut tables), heap)?, told);
+    assert_eq!(rt; driven(layer(Diagram::new(4, &mut nodes)), heap)?, told);
+    assert_eq!(rt; driven(layer(Table::new(4, &mut tables)), heap)?, told);
+    assert_eq!(rt;
+        driven(layer(layer(Diagram::new(4, &mut nodes))), heap)?,
+        told
+    );
+    assert_eq!(rt;
+        driven(layer(layer(Table::new(4, &mut tables))), heap)?,
+        told
+    );
     Ok(())
 }
 
 // What is refused of a store of 2 variables that holds the constants alone and has no records.
-fn bare<S: Store + Drop>(rt: &impl Abort, store: S) {
-    let mut store = store;
+fn bare<S: Store + Drop>(rt: &impl Abort, mut store: S) {
     assert_eq!(rt; store.variable(0), Err(Refusal::Room(0)));
     assert_eq!(rt; store.variable(2), Err(Refusal::Variable));
     assert_eq!(rt; store.not(0), Ok(1));
@@ -117,22 +105,18 @@ fn bare<S: Store + Drop>(rt: &impl Abort, store: S) {
     assert_eq!(rt; store.figures().used, 0);
 }
 
-fn bare_layer<S: Store + Drop>(rt: &impl Abort, store: S) {
-    bare(rt, Layer::new(store, &[1, 0]));
-}
-
 #[test]
 fn stores_with_no_records(rt: HostRuntime) {
     bare(&rt, Diagram::new(2, &mut []));
     bare(&rt, Table::new(2, &mut []));
-    bare_layer(&rt, Diagram::new(2, &mut []));
-    bare_layer(&rt, Table::new(2, &mut []));
+    bare(&rt, Layer::new(Diagram::new(2, &mut []), &[1, 0]));
+    bare(&rt, Layer::new(Table::new(2, &mut []), &[1, 0]));
 }
 
 // The last records of a diagram: a price of 2 is refused with 1 unit free, and nothing changes.
 #[test]
 fn last_records(rt: HostRuntime) -> Result<(), Fail> {
-    let mut nodes = [NODE; 5];
+    let mut nodes = [Node::default(); 5];
     let mut store = Diagram::new(3, &mut nodes);
     let a = store.variable(0)?;
     let b = store.variable(1)?;
@@ -157,7 +141,7 @@ fn last_records(rt: HostRuntime) -> Result<(), Fail> {
 #[test]
 fn makings_are_checked(rt: HostRuntime) {
     assert_eq!(rt; check_diagram(0, &[]), Err(Unfit::Store));
-    assert_eq!(rt; check_diagram(24, &[NODE; 3]), Ok(()));
+    assert_eq!(rt; check_diagram(24, &[Node::default(); 3]), Ok(()));
     assert_eq!(rt; check_diagram(25, &[]), Err(Unfit::Store));
     assert_eq!(rt; check_table(10, &[]), Ok(()));
     assert_eq!(rt; check_table(11, &[]), Err(Unfit::Store));

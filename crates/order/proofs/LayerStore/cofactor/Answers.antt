@@ -1,10 +1,7 @@
-use Rattle.std.proofs.Common.{take}
 use Rattle.order.proofs.Calls.{cofactor_ordered}
 use Rattle.order.proofs.LayerStore.cofactor.Goals as goal
 
 pub returns : goal.returns
 returns g c =
-    let l = c.args.self.now in
-    let told = c.figures-n.ensures.told in
-    cofactor_ordered (take l.order.count l.order.places) (g.S.Store.shows l.store) (g.S.Store.shows c.figures-n.new.self) (g.S.Store.shows c.cofactor.new.self)
-    told.lawful c.figures-n.ensures.same _ told.variables c.args.a c.args.i _ c.args.t _ c.variable_below.ensures c.cofactor.ensures
+    let told = c.figures-n.ensures in
+    cofactor_ordered c.args.self.now.order.places.items _ _ _ _ told.told told.same _ _ _ _ _ c.variable_below.ensures c.cofactor.ensures

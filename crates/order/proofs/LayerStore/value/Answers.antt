@@ -1,18 +1,11 @@
-use Rattle.std.proofs.Common.{take, ap, ◌∙◌, arith}
-use Rattle.order.specs.Renaming.{ordered}
+use Rattle.std.proofs.Common.{arith}
 use Rattle.order.proofs.Calls.{value_ordered}
 use Rattle.order.proofs.LayerStore.value.Goals as goal
 
 pub valuation_below-requires : goal.valuation_below-requires
 valuation_below-requires g c = omega (arith, c.figures-n.ensures.told.lawful.few, c.figures-n.ensures.told.variables)
 
-pub returns : goal.returns
-returns g c =
-    let l = c.args.self.now in
-    let told = c.figures-n.ensures.told in
-    let same = c.figures-n.ensures.same in
-    record {
-      same = ap (ordered (take l.order.count l.order.places)) (c.value.ensures.same ∙ same);
-      told = value_ordered (take l.order.count l.order.places) (g.S.Store.shows l.store) (g.S.Store.shows c.figures-n.new.self) (g.S.Store.shows c.value.new.self)
-          told.lawful same _ told.variables c.args.a c.args.w _ _ c.valuation_below.ensures c.value.ensures.told;
-    }
+pub returns-clause-told : goal.returns-clause-told
+returns-clause-told g c =
+    let told = c.figures-n.ensures in
+    value_ordered c.args.self.now.order.places.items _ _ (g.S.Store.shows c.value.new.self) _ told.told told.same _ _ _ _ c.valuation_below.ensures c.value.ensures.told

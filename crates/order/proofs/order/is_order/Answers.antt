@@ -1,19 +1,21 @@
-use Rattle.std.proofs.Common.{sym, ◌∙◌, arith, below_more}
-use Rattle.std.proofs.lemmas.Bool.{not-true}
-use Rattle.std.proofs.lemmas.Bool.Decides.{Decides-not}
-use Rattle.order.proofs.Lists.{is_order_tells}
+use Rattle.std.proofs.Common.{ℕ, ◌∙◌, ◌&&◌, Bool, eqb, refl, sym, ap, rules, arith, length}
+use Rattle.std.proofs.lemmas.Bool.{eq-eqb, ne_eqb}
+use Rattle.std.proofs.lemmas.Iterator.{YieldsList-from_range}
+use Rattle.std.proofs.lemmas.Iterator.Search.{all_from_yields_List}
+use borrow.Author.Tests.{tests}
+use Rattle.store.specs.Fun.{each}
+use Rattle.order.specs.Listing.{times, is_order}
+use Rattle.order.proofs.Lists.{each_range}
 use Rattle.order.proofs.order.is_order.Goals as goal
 
 pub returns-then-p-n : goal.returns-then-p-n
-returns-then-p-n c = sym (not-true _ ((Decides-not _ (is_order_tells c.args.n c.args.p.now)).1 (λ t. omega (arith, t.0, c.if-p-n.true))))
+unfolding is_order
+returns-then-p-n c =
+    let p = c.args.p.now in
+    let one : ℕ → Bool = λ j. eqb (times j p) 1 in
+    all_from_yields_List one _ _ c.all.result c.all.ensures.ran (YieldsList-from_range 0 c.args.n c.args.n (cc) (omega arith)) (λ x b q k. search (rules, tests))
+    ∙ each_range one c.args.n ∙ sym (ap (λ b. b && each one c.args.n) (eq-eqb (length p) c.args.n c.if-p-n.true))
 
-pub returns-then-times-ne1 : goal.returns-then-times-ne1
-returns-then-times-ne1 c =
-    sym (not-true _ ((Decides-not _ (is_order_tells c.args.n c.args.p.now)).1
-    (λ t. c.if-times-ne1.true (c.times.ensures ∙ t.1 c.loop-j.j c.loop-j-test.true))))
-
-pub loop-j-preserved : goal.loop-j-preserved
-loop-j-preserved c = below_more _ _ c.loop-j.invariant (sym c.times.ensures ∙ c.if-times-ne1.false)
-
-pub returns : goal.returns
-returns c = sym ((is_order_tells c.args.n c.args.p.now).1 (c.if-p-n.false, λ j h. c.loop-j.invariant j (omega arith)))
+pub returns-else-p-n : goal.returns-else-p-n
+unfolding is_order
+returns-else-p-n c = rw (ne_eqb (length c.args.p.now) c.args.n c.if-p-n.false) refl

@@ -1,22 +1,15 @@
-use Rattle.std.proofs.Common.{ℕ, ◌/◌, ◌%◌, ◌^◌, Bool, eqb, take, sym, ap, ◌∙◌, ap₂, add-one, arith}
-use Rattle.store.specs.Fun.{fixed}
-use Rattle.store.proofs.Bit.{bit_shift}
+use Rattle.std.proofs.Common.{ℕ, ◌∙◌, ◌<◌, rules, arith}
+use Rattle.std.proofs.lemmas.Iterator.{YieldsList-from_range}
+use Rattle.std.proofs.lemmas.Iterator.Consumers.{fold_from_yields_List}
+use Rattle.store.specs.Fun.{bit}
 use Rattle.order.specs.Listing.{order_of}
-use Rattle.order.specs.Renaming.{placed}
-use Rattle.order.proofs.Lists.{permutes_order}
+use Rattle.order.proofs.Lists.{order_below}
+use Rattle.order.proofs.Permute.{put, put_is, placed_range}
 use Rattle.order.proofs.order.Order.valuation_below.Goals as goal
 
-pub with_bit-v-requires : goal.with_bit-v-requires
-with_bit-v-requires c =
-    let o = c.args.self.now in
-    omega (arith, c.variable_below.ensures, c.requires, (permutes_order c.args.n (take o.count o.places)).within c.loop-i.i c.loop-i-test.true)
-
-pub loop-i-preserved : goal.loop-i-preserved
-loop-i-preserved c =
-    let o = c.args.self.now in
-    let p = order_of c.args.n (take o.count o.places) in
-    let i = c.loop-i.i in
-    let w = c.args.w in
-    let b = eqb (w / 2 ^ i % 2) 1 in
-    c.with_bit-v.ensures ∙ ap (λ (k : ℕ). fixed k b c.loop-i.v) c.variable_below.ensures
-    ∙ ap₂ (λ (t : Bool) (v : ℕ). fixed (p i) t v) (sym (bit_shift i w)) c.loop-i.invariant ∙ ap (λ (k : ℕ). placed p k w) (sym (add-one i))
+pub returns : goal.returns
+returns c =
+    let p = order_of c.args.n c.args.self.now.places.items in
+    let step : ℕ → ℕ → ℕ = λ v i. put (p i) (bit i c.args.w) v in
+    fold_from_yields_List _ step c.args.w c.fold.result c.fold.ensures.ran (YieldsList-from_range 0 c.args.n c.args.n (cc) (omega arith)) (λ a x b q k. search (rules, put_is))
+    ∙ placed_range p c.args.n c.args.w (λ i h. let l : p i < c.args.n = order_below c.args.n c.args.self.now.places.items i h in omega (arith, c.requires))
