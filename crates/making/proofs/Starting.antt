@@ -19,7 +19,7 @@ use Rattle.making.specs.Making.{at, Means, Numbered, Paired}
 use Rattle.making.specs.Pieces.{halves_list, negations_list}
 use Rattle.making.specs.Loads.{first_list, start_list, Loaded}
 use Rattle.making.specs.Ends.{Ends, plain, Gives}
-use Rattle.making.specs.Promises.{MakesFirst, Negates}
+use Rattle.making.specs.Promises.{Negates}
 use Rattle.making.proofs.Steps.{kept, and_answers, gives_last}
 use Rattle.making.proofs.Placing.{Lies, lies_at, lies_++, lies_upto}
 
@@ -41,12 +41,6 @@ nexts_length m ok numbers whole =
 module _ (m : Model) (p : Part) (l : ℕ) (h q : Fn) (s : Shown) where
   abbrev set_fn : Fn
   set_fn = first_of m.circuit.registers m.circuit.inputs h q
-
-  pub set_made : (n k a b : ℕ) (t : Shown) (r : Result ℕ Refusal) → n ≡ m.circuit.registers → k ≡ m.circuit.inputs → width m ≤ s.vars
-      → Means s a h → Means s b q → MakesFirst s n k a b r t
-      → Gives plain s t (first_list p l m.circuit.registers m.circuit.inputs h q) set_fn r
-  set_made n k a b t r en ek w mh mq y =
-      subst (λ n. MakesFirst s n m.circuit.inputs a b r t) en (subst (λ k. MakesFirst s n k a b r t) ek y) p l h q w mh mq
 
   -- f 0 to f (n - 1) with their negations
   pub pairs_made : {t u : Shown} (f : ℕ → Fn) (n : ℕ) (ns bs : List ℕ) (r : Result (ArrayVec Polarities) Refusal) → Grown s t → Lawful t → Numbered s ns f n → length ns ≡ n → bs ≡ ns

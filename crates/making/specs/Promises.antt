@@ -80,9 +80,9 @@ abbrev pub MakesClaim : Shown → Part → Model → List Code → List ℕ → 
 MakesClaim s part m codes numbers r t = (h : Tree) → codes ≡ post h → Known (sizes m.circuit) h → Lawful s → Numbered s numbers (line_fn m) (lines m.circuit)
     → Ends located s t (operators_list m part h) (λ a. Lawful t × Means t a (claim_fn m h)) r
 
-abbrev pub MakesFirst : Shown → ℕ → ℕ → ℕ → ℕ → Result ℕ Refusal → Shown → Type 0
-MakesFirst s n m a b r t = (p : Part) (l : ℕ) (h q : Fn) → 2 * n + m ≤ s.vars → Means s a h → Means s b q
-    → Gives plain s t (first_list p l n m h q) (first_of n m h q) r
+abbrev pub MakesFirst : Shown → Model → ℕ → ℕ → Result ℕ Refusal → Shown → Type 0
+MakesFirst s m a b r t = (p : Part) (l : ℕ) (h q : Fn) → width m ≤ s.vars → Means s a h → Means s b q
+    → Gives plain s t (first_list p l m.circuit.registers m.circuit.inputs h q) (first_of m.circuit.registers m.circuit.inputs h q) r
 
 -- the first set, whether it meets Init, and the negations
 abbrev pub MakesStart : Shown → Model → List ℕ → List ℕ → ℕ → ℕ → Result Built Refusal → Shown → Type 0

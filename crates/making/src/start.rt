@@ -1,5 +1,4 @@
 // The first set, and what an advance takes besides.
-ghost use Rattle.std.specs.Prelude.{◌≤◌};
 ghost use Rattle.circuit.specs.Reading.{netlist};
 ghost use Rattle.making.specs.Models.{alone};
 ghost use Rattle.making.specs.Promises.{MakesFirst, MakesStart};
@@ -8,24 +7,23 @@ use crate::inputs::quantify;
 use crate::lines::Lines;
 use crate::negations::with_negations;
 use crate::parts::{Built, Parts};
+use circuit::circuit::Circuit;
 use store::Store;
 use store::refusal::Refusal;
 
 // The states with an input where the assumption holds and the property fails.
 fn first_set<S: Store>(
     store: &mut S,
-    n: u8,
-    m: u8,
+    circuit: &Circuit,
     assumed: u16,
     property: u16,
 ) -> Result<u16, Refusal>
-    requires registers { n ≤ 8 }
-    requires inputs { m ≤ 8 }
-    ensures { MakesFirst (S.Store.shows store.old) n m assumed property result (S.Store.shows store.new) }
+    ensures { MakesFirst (S.Store.shows store.old) (alone (netlist circuit.now)) assumed property result (S.Store.shows store.new) }
 {
     let broken = store.not(property)?;
     let allowed = store.and(broken, assumed)?;
-    quantify(store, allowed, 2 * n, m)
+    let first_input = 2 * circuit.registers();
+    quantify(store, allowed, first_input, circuit.inputs())
 }
 
 pub(crate) fn make_start<S: Store>(
@@ -39,7 +37,7 @@ pub(crate) fn make_start<S: Store>(
     let n = lines.circuit.registers();
     let m = lines.circuit.inputs();
     let init = lines.init();
-    let set = first_set(store, n, m, assumed, property)?;
+    let set = first_set(store, lines.circuit, assumed, property)?;
     let met = store.and(set, init)?;
     let copies = with_negations(store, &lines.copies)?;
     let nexts = with_negations(store, lines.nexts())?;

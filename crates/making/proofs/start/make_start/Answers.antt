@@ -8,7 +8,7 @@ use Rattle.making.specs.Ends.{made}
 use Rattle.making.proofs.Steps.{kept, runs_grown, grown_more, runs_join, runs_of, broke, ends_after, ends_before, ends_refused}
 use Rattle.making.proofs.Loops.{paired_kept}
 use Rattle.making.proofs.Circuits.{valid_alone}
-use Rattle.making.proofs.Starting.{set_made, met_made, pairs_made, init_means, nexts_mean, nexts_length, loaded}
+use Rattle.making.proofs.Starting.{met_made, pairs_made, init_means, nexts_mean, nexts_length, loaded}
 use Rattle.making.proofs.start.make_start.Goals as goal
 
 pub invariant_of-parts : goal.invariant_of-parts
@@ -28,7 +28,7 @@ returns-in_err-set g c p l h q w ln cs mh mq =
     let d = alone n in
     let s = g.S.Store.shows c.args.store.now in
     broke c.from_residual.result c.in_err-set.field-0.0 c.from_residual.ensures.1
-    (ends_before _ (set_made d p l h q s _ _ _ _ _ _ c.registers-n.ensures c.inputs-m.ensures w mh mq c.in_err-set.ensures))
+    (ends_before _ (c.in_err-set.ensures p l h q w mh mq))
 
 pub returns-in_err-met : goal.returns-in_err-met
 returns-in_err-met g c p l h q w ln cs mh mq =
@@ -36,7 +36,7 @@ returns-in_err-met g c p l h q w ln cs mh mq =
     let d = alone n in
     let s = g.S.Store.shows c.args.store.now in
     let ok = valid_alone n c.args.lines.now.circuit.now.sound in
-    let r1 = runs_of (set_made d p l h q s _ _ _ _ _ _ c.registers-n.ensures c.inputs-m.ensures w mh mq c.in_ok-set.ensures) in
+    let r1 = runs_of (c.in_ok-set.ensures p l h q w mh mq) in
     let g1 = runs_grown r1.0 in
     broke c.from_residual-in_err-met.result c.in_err-met.field-0.0 c.from_residual-in_err-met.ensures.1
     (ends_after r1.0 (ends_before _ (met_made d p l h q s ok _ ln _ c.init-init.result _ g1 r1.1 c.init-init.ensures c.in_err-met.ensures)))
@@ -47,7 +47,7 @@ returns-in_err-copies g c p l h q w ln cs mh mq =
     let d = alone n in
     let s = g.S.Store.shows c.args.store.now in
     let ok = valid_alone n c.args.lines.now.circuit.now.sound in
-    let r1 = runs_of (set_made d p l h q s _ _ _ _ _ _ c.registers-n.ensures c.inputs-m.ensures w mh mq c.in_ok-set.ensures) in
+    let r1 = runs_of (c.in_ok-set.ensures p l h q w mh mq) in
     let g1 = runs_grown r1.0 in
     let r2 = runs_of (met_made d p l h q s ok _ ln _ c.init-init.result _ g1 r1.1 c.init-init.ensures c.in_ok-met.ensures) in
     let g2 = grown_more g1 (runs_grown r2.0) in
@@ -60,7 +60,7 @@ returns-in_err-nexts g c p l h q w ln cs mh mq =
     let d = alone n in
     let s = g.S.Store.shows c.args.store.now in
     let ok = valid_alone n c.args.lines.now.circuit.now.sound in
-    let r1 = runs_of (set_made d p l h q s _ _ _ _ _ _ c.registers-n.ensures c.inputs-m.ensures w mh mq c.in_ok-set.ensures) in
+    let r1 = runs_of (c.in_ok-set.ensures p l h q w mh mq) in
     let g1 = runs_grown r1.0 in
     let r2 = runs_of (met_made d p l h q s ok _ ln _ c.init-init.result _ g1 r1.1 c.init-init.ensures c.in_ok-met.ensures) in
     let g2 = grown_more g1 (runs_grown r2.0) in
@@ -75,7 +75,7 @@ returns g c p l h q w ln cs mh mq =
     let d = alone n in
     let s = g.S.Store.shows c.args.store.now in
     let ok = valid_alone n c.args.lines.now.circuit.now.sound in
-    let r1 = runs_of (set_made d p l h q s _ _ _ _ _ _ c.registers-n.ensures c.inputs-m.ensures w mh mq c.in_ok-set.ensures) in
+    let r1 = runs_of (c.in_ok-set.ensures p l h q w mh mq) in
     let g1 = runs_grown r1.0 in
     let r2 = runs_of (met_made d p l h q s ok _ ln _ c.init-init.result _ g1 r1.1 c.init-init.ensures c.in_ok-met.ensures) in
     let g2 = grown_more g1 (runs_grown r2.0) in
