@@ -4,6 +4,7 @@ use Rattle.store.specs.Meaning.{Shown}
 use Rattle.circuit.specs.declared.sizes.Sizes.{Sizes}
 use Rattle.description.specs.Checks.{Checked}
 use Rattle.description.specs.declared.fault.Fault.{Fault as Misdescription}
+use Rattle.description.specs.declared.part.Part.{Part}
 use Rattle.making.specs.declared.fault.Fault.TheVariants.{Description, Room}
 use Rattle.making.specs.Making.{Item, Runs, Stops}
 use Rattle.making.specs.Loads.{load_list, advance_list}
@@ -61,7 +62,7 @@ pub data Reports (s : Shown) (bs : List ℕ) : Report → Type 0 where
 
 -- the job was refused for room
 pub data Full : Report → Type 0 where
-  full : {q l u : ℕ} → Full (report.Refused (Call (Room q l u)))
+  full : {q : Part} {l u : ℕ} → Full (report.Refused (Call (Room q l u)))
 
 -- no other report is right, unless one of the two is a refusal for room
 abbrev pub Only : Shown → List ℕ → Report → Type 0

@@ -2,7 +2,7 @@ use arrayvec::ArrayVec;
 use making::parts::Parts;
 use uses::verdict::Verdict;
 
-pub(crate) const MOST_ADVANCES: usize = 256;
+pub const MOST_ADVANCES: usize = 256;
 
 // A search: the numbers of its functions, of its last set and of the sets before it, from B_0 on, and the verdict there.
 #[derive(Drop)]
