@@ -155,7 +155,7 @@ fn stores_agree(rt: HostRuntime) -> Result<(), Fail> {
 // The number, the part and the place of what a search is refused for.
 fn refusal<S: Store + Drop>(store: S, case: Case) -> Option<(u8, u8, usize)> {
     let fault = search(store, case).err()?;
-    Some((fault.number(), fault.part(), fault.place()))
+    Some((fault.number(), fault.part().number(), fault.place()))
 }
 
 // Each function that is new takes one of the table's records, so that each of them is refused in its turn.
