@@ -3,10 +3,8 @@ use circuit::refusal::{Refusal, Size};
 use circuit::sizes::Sizes;
 use claim::fault::Fault as Misreading;
 use description::fault::Fault as Misdescription;
-use description::part::Part;
 use job::check as report_on;
 use job::fault::Fault;
-use job::notice::Notice;
 use job::report::Report;
 
 // One register that follows one input, with the assumption `1` and the property `!s0`.
@@ -59,19 +57,15 @@ fn frames(rt: HostRuntime) {
     );
 }
 
+// The number, the part's number and the place.
+fn told(fault: Fault) -> (u8, u8, usize) {
+    let notice = fault.notice();
+    (notice.number, notice.part.number(), notice.place)
+}
+
 #[test]
 fn numbers(rt: HostRuntime) {
     let fault = Fault::Description(Misdescription::Circuit(Refusal::Start(7)));
-    let notice = Notice {
-        number: 6,
-        part: Part::Circuit,
-        place: 7,
-    };
-    assert_eq!(rt; fault.notice(), notice);
-    let notice = Notice {
-        number: 2,
-        part: Part::Job,
-        place: 9,
-    };
-    assert_eq!(rt; Fault::Length(9).notice(), notice);
+    assert_eq!(rt; told(fault), (6, 1, 7));
+    assert_eq!(rt; told(Fault::Length(9)), (2, 0, 9));
 }
