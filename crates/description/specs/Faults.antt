@@ -6,6 +6,7 @@ use Rattle.description.specs.declared.part.Part.{Part}
 use Rattle.description.specs.declared.part.Part.TheVariants as part
 use Rattle.description.specs.declared.fault.Fault.{Fault}
 use Rattle.description.specs.declared.fault.Fault.TheVariants.{Circuit, Assumption, Property}
+use Rattle.description.specs.declared.notice.Notice.{Notice}
 
 abbrev pub number_of : Fault → ℕ
 number_of (Circuit e) = circuit.number_of e
@@ -21,6 +22,9 @@ abbrev pub place_of : Fault → ℕ
 place_of (Circuit e) = circuit.place_of e
 place_of (Assumption e) = claim.place_of e
 place_of (Property e) = claim.place_of e
+
+abbrev pub notice_of : Fault → Notice
+notice_of e = record { number = number_of e; part = part_of e; place = place_of e }
 
 abbrev pub part_number : Part → ℕ
 part_number part.Job = 0

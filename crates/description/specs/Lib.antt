@@ -1,3 +1,4 @@
 pub mod Faults
+pub mod Notices
 pub mod Checks
 pub mod Results

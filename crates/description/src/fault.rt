@@ -1,46 +1,43 @@
 // Why a circuit file or one of its claims is refused.
 ghost use Rattle.std.specs.Prelude.{◌≡◌};
-ghost use Rattle.description.specs.Faults.{number_of, part_of, place_of};
+ghost use Rattle.claim.specs.Faults.{number_of, place_of};
+ghost use Rattle.description.specs.Faults.{notice_of};
 
+use crate::notice::Notice;
 use crate::part::Part;
 use circuit::refusal::Refusal;
+use claim::fault::Fault as Misreading;
 
 #[derive(Clone, Copy, PartialEq, Eq, Debug)]
 pub enum Fault {
     Circuit(Refusal),
-    Assumption(claim::fault::Fault),
-    Property(claim::fault::Fault),
+    Assumption(Misreading),
+    Property(Misreading),
 }
 
 impl Fault {
-    // Methods, since `as` takes no enum that holds values.
-    pub fn number(self) -> u8
-        ensures { result ≡ number_of self }
+    pub fn notice(self) -> Notice
+        ensures { result ≡ notice_of self }
     {
         match self {
-            Fault::Circuit(refusal) => refusal.number(),
-            Fault::Assumption(fault) => fault.number(),
-            Fault::Property(fault) => fault.number(),
+            Fault::Circuit(refusal) => Notice {
+                number: refusal.number(),
+                part: Part::Circuit,
+                place: refusal.place(),
+            },
+            Fault::Assumption(fault) => misread(fault, Part::Assumption),
+            Fault::Property(fault) => misread(fault, Part::Property),
         }
     }
+}
 
-    pub fn part(self) -> Part
-        ensures { result ≡ part_of self }
-    {
-        match self {
-            Fault::Circuit(_) => Part::Circuit,
-            Fault::Assumption(_) => Part::Assumption,
-            Fault::Property(_) => Part::Property,
-        }
-    }
-
-    pub fn place(self) -> usize
-        ensures { result ≡ place_of self }
-    {
-        match self {
-            Fault::Circuit(refusal) => refusal.place(),
-            Fault::Assumption(fault) => fault.place(),
-            Fault::Property(fault) => fault.place(),
-        }
+// The notice of a text, the assumption or the property.
+fn misread(fault: Misreading, part: Part) -> Notice
+    ensures { result ≡ record { number = number_of fault; part = part; place = place_of fault } }
+{
+    Notice {
+        number: fault.number(),
+        part,
+        place: fault.place(),
     }
 }

@@ -1,7 +1,7 @@
 ghost use Rattle.std.specs.Prelude.{Some};
-ghost use Rattle.job.specs.Notices.{notice_text};
+ghost use Rattle.description.specs.Notices.{notice_text};
 
-use description::part::Part;
+use crate::part::Part;
 use std::fmt;
 
 // What is told of a refusal: its number, the part that it lies in, and the place there.
