@@ -2,6 +2,7 @@
 use Rattle.std.specs.Prelude.{ℕ}
 use Rattle.description.specs.declared.part.Part.{Part}
 use Rattle.description.specs.declared.part.Part.TheVariants.{Call}
+use Rattle.description.specs.declared.notice.Notice.{Notice}
 use Rattle.description.specs.Faults as description
 use Rattle.making.specs.declared.fault.Fault.{Fault}
 use Rattle.making.specs.declared.fault.Fault.TheVariants.{Loaded, Description, Room, Empty, Settled, Verdict, Short, State, Number, Variable}
@@ -41,3 +42,6 @@ place_of (Short n) = n
 place_of State = 0
 place_of Number = 0
 place_of Variable = 0
+
+abbrev pub notice_of : Fault → Notice
+notice_of e = record { number = number_of e; part = part_of e; place = place_of e }

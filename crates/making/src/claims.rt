@@ -4,6 +4,7 @@ ghost use Rattle.circuit.specs.Reading.{netlist};
 ghost use Rattle.making.specs.Models.{alone};
 ghost use Rattle.making.specs.Promises.{ActsOn, MakesClaim};
 
+use crate::FALSE;
 use crate::fault::Fault;
 use crate::lines::Lines;
 use crate::places::place_at;
@@ -16,12 +17,12 @@ use store::refusal::Refusal;
 // The operands of a claim, at most one for each code.
 type Stack = ArrayVec<u16, 512>;
 
-// Takes the top of the stack, or 0 if it is empty.
+// Takes the top of the stack, or false if it is empty.
 fn pop(stack: &mut Stack) -> u16
     ensures top { (below : List ℕ) (a : ℕ) → stack.old.items ≡ below ++ a ∷ [] → (result ≡ a) × (stack.new.items ≡ below) }
     ensures lower { length stack.new.items ≤ length stack.old.items }
 {
-    stack.pop().unwrap_or(0)
+    stack.pop().unwrap_or(FALSE)
 }
 
 // The number of an act's function. Its operands leave the stack. A match, and no closures: an act is data, read from a text.

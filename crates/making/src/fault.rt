@@ -1,10 +1,12 @@
 // Why a call of a session is refused, with its number, its part and its place.
 ghost use Rattle.std.specs.Prelude.{◌≡◌};
+ghost use Rattle.description.specs.declared.part.Part.TheVariants.{Call};
 ghost use Rattle.making.specs.declared.fault.Fault.TheVariants.{Description as of_description};
 ghost use Rattle.making.specs.Ends.{placing};
-ghost use Rattle.making.specs.Faults.{number_of, part_of, place_of};
+ghost use Rattle.making.specs.Faults.{notice_of};
 
 use description::fault::Fault as Misdescription;
+use description::notice::Notice;
 use description::part::Part;
 use store::refusal::Refusal;
 
@@ -32,6 +34,7 @@ pub enum Fault {
     Variable,
 }
 
+// Each type of error has its own conversion, into its own case: one for all would take an enum of them, which is this one.
 impl From<Misdescription> for Fault {
     ghost from_gives = { λ e r. r ≡ of_description e };
 
@@ -52,42 +55,39 @@ impl Fault {
         }
     }
 
-    // Methods, since `as` takes no enum that holds values.
-    pub fn number(self) -> u8
-        ensures { result ≡ number_of self }
+    // The numbers are written out, since `as` takes no enum that holds values.
+    pub fn notice(self) -> Notice
+        ensures { result ≡ notice_of self }
     {
         match self {
-            Fault::Loaded => 1,
-            Fault::Description(fault) => fault.number(),
-            Fault::Room { .. } => 10,
-            Fault::Empty => 11,
-            Fault::Settled => 12,
-            Fault::Verdict => 13,
-            Fault::Short { .. } => 14,
-            Fault::State => 15,
-            Fault::Number => 16,
-            Fault::Variable => 17,
+            Fault::Loaded => of_call(1),
+            Fault::Description(fault) => fault.notice(),
+            Fault::Room { part, place, .. } => Notice {
+                number: 10,
+                part,
+                place: usize::from(place),
+            },
+            Fault::Empty => of_call(11),
+            Fault::Settled => of_call(12),
+            Fault::Verdict => of_call(13),
+            Fault::Short { needed } => Notice {
+                place: usize::from(needed),
+                ..of_call(14)
+            },
+            Fault::State => of_call(15),
+            Fault::Number => of_call(16),
+            Fault::Variable => of_call(17),
         }
     }
+}
 
-    pub fn part(self) -> Part
-        ensures { result ≡ part_of self }
-    {
-        match self {
-            Fault::Description(fault) => fault.part(),
-            Fault::Room { part, .. } => part,
-            _ => Part::Call,
-        }
-    }
-
-    pub fn place(self) -> usize
-        ensures { result ≡ place_of self }
-    {
-        match self {
-            Fault::Description(fault) => fault.place(),
-            Fault::Room { place, .. } => place as usize,
-            Fault::Short { needed } => needed as usize,
-            _ => 0,
-        }
+// The notice of a call that is refused as a whole, at no place in it.
+fn of_call(number: u8) -> Notice
+    ensures { result ≡ record { number = number; part = Call; place = 0 } }
+{
+    Notice {
+        number,
+        part: Part::Call,
+        place: 0,
     }
 }

@@ -20,3 +20,6 @@ pub use laws::{lists_are_held, lists_are_short};
 pub use load::build;
 pub use places::place_at;
 pub use step::back;
+
+// The number of false in every store.
+pub const FALSE: u16 = 0;

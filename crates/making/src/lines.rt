@@ -4,6 +4,7 @@ ghost use Rattle.circuit.specs.Netlists.{lines, next_line, init_line};
 ghost use Rattle.circuit.specs.Reading.{netlist};
 ghost use Rattle.runs.specs.Valuations.{name_line};
 
+use crate::FALSE;
 use arrayvec::ArrayVec;
 use circuit::MOST_LINES;
 use circuit::circuit::Circuit;
@@ -23,7 +24,7 @@ pub(crate) struct Lines<'a> {
 }
 
 impl Lines<'_> {
-    // The number of what a claim names, or 0 if there is no such line.
+    // The number of what a claim names, or of false if there is no such line.
     pub(crate) fn named(&self, sort: Sort, i: u16) -> u16
         ensures { result ≡ slice_index self.now.numbers.items (name_line (netlist self.now.circuit.now) sort i) }
     {
@@ -34,7 +35,10 @@ impl Lines<'_> {
             Sort::Input => 1 + registers,
             Sort::Gate => 1 + registers + inputs,
         };
-        self.numbers.get(before + i as usize).copied().unwrap_or(0)
+        self.numbers
+            .get(before + i as usize)
+            .copied()
+            .unwrap_or(FALSE)
     }
 
     // The number of Init, the last line.

@@ -5,6 +5,7 @@ ghost use Rattle.claim.specs.Result.{used};
 ghost use Rattle.making.specs.Models.{alone};
 ghost use Rattle.making.specs.Promises.{MakesLines, Builds};
 
+use crate::FALSE;
 use crate::claims::make_claim;
 use crate::fault::Fault;
 use crate::gates::make_gates;
@@ -14,12 +15,9 @@ use crate::places::place_at;
 use crate::start::make_start;
 use crate::variables::make_variables;
 use circuit::circuit::Circuit;
-use claim::codes::Codes;
+use description::described::Described;
 use description::part::Part;
 use store::Store;
-
-// The number of line 0.
-const FALSE: u16 = 0;
 
 fn make_lines<'a, S: Store>(store: &mut S, circuit: &'a Circuit) -> Result<Lines<'a>, Fault>
     ensures circuit { IfOk result (λ l. l.circuit.now ≡ circuit.now) }
@@ -38,17 +36,17 @@ fn make_lines<'a, S: Store>(store: &mut S, circuit: &'a Circuit) -> Result<Lines
 }
 
 // Makes all functions of a circuit and its claims that a search starts from.
-pub fn build<S: Store>(
-    store: &mut S,
-    circuit: &Circuit,
-    assumption: &Codes,
-    property: &Codes,
-) -> Result<Built, Fault>
-    ensures { Builds (S.Store.shows store.old) (netlist circuit.now) (used assumption.now) (used property.now) result (S.Store.shows store.new) }
+pub fn build<S: Store>(store: &mut S, described: &Described) -> Result<Built, Fault>
+    ensures { Builds (S.Store.shows store.old) (netlist described.now.circuit) (used described.now.assumption) (used described.now.property) result (S.Store.shows store.new) }
 {
-    let lines = make_lines(store, circuit)?;
-    let assumed = make_claim(store, Part::Assumption, &lines, assumption.codes())?;
-    let promised = make_claim(store, Part::Property, &lines, property.codes())?;
+    let lines = make_lines(store, &described.circuit)?;
+    let assumed = make_claim(
+        store,
+        Part::Assumption,
+        &lines,
+        described.assumption.codes(),
+    )?;
+    let promised = make_claim(store, Part::Property, &lines, described.property.codes())?;
     let start = make_start(store, &lines, assumed, promised);
     place_at(start, Part::Sets, 0)
 }

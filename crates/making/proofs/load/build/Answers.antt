@@ -19,21 +19,21 @@ use Rattle.making.proofs.load.build.Goals as goal
 
 pub make_claim-requires : goal.make_claim-requires
 make_claim-requires g c =
-    omega (arith, ap length c.codes.ensures, c.args.assumption.now.within)
+    omega (arith, ap length c.codes.ensures, c.args.described.now.assumption.within)
 
 pub make_claim-requires-2 : goal.make_claim-requires-2
 make_claim-requires-2 g c =
-    omega (arith, ap length c.codes-2.ensures, c.args.property.now.within)
+    omega (arith, ap length c.codes-2.ensures, c.args.described.now.property.within)
 
 pub returns-in_err-lines : goal.returns-in_err-lines
 returns-in_err-lines g c h q eh eq kh kq l w =
-    let m = model (netlist c.args.circuit.now) h q in
+    let m = model (netlist c.args.described.now.circuit) h q in
     broke c.from_residual.result c.in_err-lines.field-0.0 c.from_residual.ensures.1
     (ends_as (append_assoc (variables_list (width m)) (gates_list m (length m.circuit.gates)) _) (ends_before _ (c.in_err-lines.ensures.makes l w)))
 
 pub returns-in_err-assumed : goal.returns-in_err-assumed
 returns-in_err-assumed g c h q eh eq kh kq l w =
-    let m = model (netlist c.args.circuit.now) h q in
+    let m = model (netlist c.args.described.now.circuit) h q in
     let r1 = runs_of (c.in_ok-lines.ensures.makes l w) in
     let k = c.in_ok-lines.lines in
     let claim = subst (λ z. MakesClaim (g.S.Store.shows c.make_lines.new.store) Assumption (alone (netlist z)) c.codes.result.now k.numbers.items (Err c.in_err-assumed.field-0.0) (g.S.Store.shows c.make_claim.new.store)) c.in_ok-lines.ensures.circuit c.in_err-assumed.ensures in
@@ -42,7 +42,7 @@ returns-in_err-assumed g c h q eh eq kh kq l w =
 
 pub returns-in_err-promised : goal.returns-in_err-promised
 returns-in_err-promised g c h q eh eq kh kq l w =
-    let m = model (netlist c.args.circuit.now) h q in
+    let m = model (netlist c.args.described.now.circuit) h q in
     let r1 = runs_of (c.in_ok-lines.ensures.makes l w) in
     let k = c.in_ok-lines.lines in
     let claim = subst (λ z. MakesClaim (g.S.Store.shows c.make_lines.new.store) Assumption (alone (netlist z)) c.codes.result.now k.numbers.items (Ok c.in_ok-assumed.assumed) (g.S.Store.shows c.make_claim.new.store)) c.in_ok-lines.ensures.circuit c.in_ok-assumed.ensures in
@@ -55,7 +55,7 @@ returns-in_err-promised g c h q eh eq kh kq l w =
 
 pub returns : goal.returns
 returns g c h q eh eq kh kq l w =
-    let m = model (netlist c.args.circuit.now) h q in
+    let m = model (netlist c.args.described.now.circuit) h q in
     let r1 = runs_of (c.in_ok-lines.ensures.makes l w) in
     let k = c.in_ok-lines.lines in
     let claim = subst (λ z. MakesClaim (g.S.Store.shows c.make_lines.new.store) Assumption (alone (netlist z)) c.codes.result.now k.numbers.items (Ok c.in_ok-assumed.assumed) (g.S.Store.shows c.make_claim.new.store)) c.in_ok-lines.ensures.circuit c.in_ok-assumed.ensures in
