@@ -1,1 +1,3 @@
 pub mod Contents
+mod Chains
+mod Order

@@ -1,2 +1,4 @@
+pub mod Chains
 pub mod Contents
+pub mod Orderly
 pub mod Placing

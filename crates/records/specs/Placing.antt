@@ -1,8 +1,10 @@
 -- What a look-up answers, and what the list then holds.
-use Rattle.std.specs.Prelude.{◌≡◌, ℕ, ◌<◌, ◌⊎◌, List, [], ◌∷◌, ◌++◌, length, Some, Ok, Err, Result, ◌≢◌}
+use Rattle.std.specs.Prelude.{◌≡◌, ℕ, ◌<◌, ◌≤◌, ◌⊎◌, List, [], ◌∷◌, ◌++◌, length, Some, None, Option, Ok, Err, Result, ◌≢◌}
 use Rattle.std.specs.List.{slice_get}
 use Rattle.records.specs.declared.Full.{Full}
-use Rattle.records.specs.declared.List.{List as Records}
+use Rattle.std.specs.declared.cmp.PartialEq as eq
+use Rattle.records.specs.declared.entry.Entry as entry
+use Rattle.records.specs.declared.list.List.{List as Records}
 use Rattle.records.specs.Contents.{entries, room}
 
 -- x stands at none of the first n places
@@ -23,5 +25,15 @@ abbrev pub Answers : {T : Type 0} → List T → ℕ → T → Result ℕ Full �
 Answers xs room x (Ok i) ys = Absent xs i x × (Found xs x i ys ⊎ Added xs room x i ys)
 Answers xs room x (Err _) ys = (length xs ≡ room) × Absent xs (length xs) x × (ys ≡ xs)
 
-abbrev pub Places : {T : Type 0} → Records T → T → Result ℕ Full → Records T → Type 0
+abbrev pub Places : {T : Type 0} {e : entry.Ghosts T} {p : eq.Ghosts T} → Records T e p → T → Result ℕ Full → Records T e p → Type 0
 Places l x r m = Answers (entries l) (room l) x r (entries m) × (room m ≡ room l)
+
+-- a place of x; or that it stands at none from `low` on and below `high`
+abbrev pub Among : {T : Type 0} → List T → T → ℕ → ℕ → Option ℕ → Type 0
+Among xs x low high (Some i) = slice_get xs i ≡ Some x
+Among xs x low high None = (k : ℕ) → low ≤ k → k < high → slice_get xs k ≢ Some x
+
+-- the lowest place of x; or that it stands nowhere
+abbrev pub Finds : {T : Type 0} → List T → T → Option ℕ → Type 0
+Finds xs x (Some i) = (slice_get xs i ≡ Some x) × Absent xs i x
+Finds xs x None = Absent xs (length xs) x

@@ -1,34 +1,45 @@
 // A list of entries in lent records: an entry is found, or added at the end, or there is no room.
+// An entry at a place that has a link is found by its hash, and one at a later place by a scan.
 #![tactic(auto)]
 
-ghost use Rattle.std.specs.Prelude.{◌≡◌, [], length, take, position};
+ghost use Rattle.std.specs.Prelude.{◌≡◌, ◌%◌, [], length, take, position};
 ghost use Rattle.std.specs.Option.{option_map};
 ghost use Rattle.std.specs.List.{slice_get};
+ghost use Rattle.records.specs.Chains.{buckets};
 ghost use Rattle.records.specs.Contents.{entries, room};
-ghost use Rattle.records.specs.Placing.{Places};
+ghost use Rattle.records.specs.Orderly.{filed};
+ghost use Rattle.records.specs.Placing.{Among, Finds, Places};
 
 pub mod entry;
+mod index;
+mod list;
 
 use entry::Entry;
+use index::{BUCKETS, Index};
+pub use list::List;
 
 // No record is left.
 #[derive(Clone, Copy, PartialEq, Eq, Debug)]
 pub struct Full;
 
-// The first `used` of the records are in use. A slice with a length beside it, and no vector: a store's memory is lent to it.
-#[derive(Drop)]
-pub struct List<'a, T> {
-    records: &'a mut [T],
-    used: usize,
+// The lowest place of an equal entry.
+fn position<T: Entry>(entries: &[T], item: T) -> Option<usize>
+    ensures { result ≡ position (λ entry. T.PartialEq.eq entry item) entries.now }
+{
+    entries.iter().position(|entry| *entry == item)
 }
 
-impl<'a, T> List<'a, T> {
-    // The empty list in these records.
-    pub fn new(records: &'a mut [T]) -> List<'a, T>
+impl<'a, T: Entry> List<'a, T> {
+    // The empty list in these records, whatever the links hold.
+    pub fn new(records: &'a mut [T], links: &'a mut [u16]) -> List<'a, T>
         ensures empty { entries result ≡ [] }
         ensures room { room result ≡ length records.old }
     {
-        List { records, used: 0 }
+        List {
+            records,
+            used: 0,
+            index: Index::new(links),
+        }
     }
 
     // How many entries there can be.
@@ -65,22 +76,57 @@ impl<'a, T> List<'a, T> {
         ensures room { room self.new ≡ room self.old }
     {
         self.used = self.used.min(kept);
+        self.index.truncate(kept);
     }
-}
 
-impl<T: Entry> List<'_, T> {
-    // The lowest place of an equal entry.
-    fn place(&self, item: T) -> Option<usize>
-        ensures { result ≡ position (λ entry. T.eq entry item) (entries self.now) }
+    // How many of the entries are on chains.
+    fn filed(&self) -> usize
+        ensures { result ≡ filed (entries self.now) self.now.index }
     {
-        self.as_slice().iter().position(|entry| *entry == item)
+        self.index.limit().min(self.len())
+    }
+
+    // The place of an equal entry that is on the chain of its bucket.
+    fn on_chain(&self, item: T, bucket: usize) -> Option<usize>
+        requires { bucket ≡ T.Entry.hashed item % buckets }
+        ensures { Among (entries self.now) item 0 (filed (entries self.now) self.now.index) result }
+    {
+        let mut at = self.index.first(bucket).min(self.filed());
+        while at > 0 {
+            if self.as_slice()[at - 1] == item {
+                return Some(at - 1);
+            }
+            at = self.index.next(at);
+        }
+        None
+    }
+
+    // The place of an equal entry that is past those on chains.
+    fn past_chains(&self, item: T) -> Option<usize>
+        ensures { Among (entries self.now) item (filed (entries self.now) self.now.index) (length (entries self.now)) result }
+    {
+        let filed = self.filed();
+        let place = position(&self.as_slice()[filed..], item)?;
+        Some(filed + place)
+    }
+
+    // The lowest place of an equal entry.
+    fn place(&self, item: T, bucket: usize) -> Option<usize>
+        requires { bucket ≡ T.Entry.hashed item % buckets }
+        ensures { Finds (entries self.now) item result }
+    {
+        if let Some(place) = self.on_chain(item, bucket) {
+            return Some(place);
+        }
+        self.past_chains(item)
     }
 
     // The lowest place of an equal entry; else the entry is added at the end, if a record is left.
     pub fn find_or_add(&mut self, item: T) -> Result<usize, Full>
         ensures { Places self.old item result self.new }
     {
-        if let Some(place) = self.place(item) {
+        let bucket = usize::from(item.hash()) % BUCKETS;
+        if let Some(place) = self.place(item, bucket) {
             return Ok(place);
         }
         let end = self.len();
@@ -89,6 +135,9 @@ impl<T: Entry> List<'_, T> {
         }
         self.records[end] = item;
         self.used = end + 1;
+        if end < self.index.limit() {
+            self.index.file(end, bucket);
+        }
         Ok(end)
     }
 }

@@ -1,7 +1,7 @@
 use Rattle.std.proofs.Common.{length, take, ap, sym, ◌∙◌}
 use Rattle.records.specs.Contents.{entries}
 use Rattle.records.proofs.Contents.{in_use}
-use Rattle.records.proofs.List.as_slice.Goals as goal
+use Rattle.records.proofs.list.List.as_slice.Goals as goal
 
 pub slice_bounds-result-end-2 : goal.slice_bounds-result-end-2
 unfolding entries

@@ -1,6 +1,6 @@
 use Rattle.std.proofs.Common.{refl}
 use Rattle.records.specs.Contents.{entries, room}
-use Rattle.records.proofs.List.new.Goals as goal
+use Rattle.records.proofs.list.List.new.Goals as goal
 
 pub returns : goal.returns
 unfolding entries room

@@ -1,6 +1,6 @@
 use Rattle.std.proofs.Common.{refl}
 use Rattle.records.specs.Contents.{room}
-use Rattle.records.proofs.List.capacity.Goals as goal
+use Rattle.records.proofs.list.List.capacity.Goals as goal
 
 pub returns : goal.returns
 unfolding room

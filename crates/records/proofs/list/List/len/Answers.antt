@@ -1,7 +1,7 @@
 use Rattle.std.proofs.Common.{arith}
 use Rattle.std.proofs.lemmas.List.{length-take}
 use Rattle.records.specs.Contents.{entries, room}
-use Rattle.records.proofs.List.len.Goals as goal
+use Rattle.records.proofs.list.List.len.Goals as goal
 
 pub returns : goal.returns
 unfolding entries room

@@ -1,0 +1,49 @@
+use Rattle.std.proofs.Common.{◌≡◌, ℕ, ◌%◌, ◌<◌, ◌-◌, List, length, get_or, Some, sym, refl, ap, ◌∙◌, subst, arith}
+use mathlib.Core.Logic.{∥∥₁_elim}
+use mathlib.Core.HLevel.{Π_prop, ⊥_prop}
+use Rattle.std.specs.List.{slice_get}
+use Rattle.std.proofs.lemmas.Nat.{mod_below}
+use Rattle.std.proofs.lemmas.Option.{slice_get_read}
+use Rattle.std.proofs.lemmas.Bool.{both_ways}
+use Rattle.records.specs.Chains.{buckets, Chained}
+use Rattle.records.specs.Contents.{entries}
+use Rattle.records.specs.Orderly.{filed}
+use Rattle.records.proofs.Chains.{chained-below, chained-next}
+use Rattle.records.proofs.list.List.on_chain.Goals as goal
+
+pub loop-at-init : goal.loop-at-init
+loop-at-init g c =
+    let l = c.args.self.now in (
+      omega (arith, c.filed.ensures),
+      λ f k h p.
+          let b = c.args.bucket in
+          let low = f.below b (omega (arith, c.requires, mod_below (g.T.Entry.hashed c.args.item) buckets (omega arith))) in
+          let e : get_or l.index.heads b 0 ≡ c.min-at.result = omega (arith, c.filed.ensures) in
+          subst (λ (n : ℕ). Chained l.index.links.now n k) (ap (λ n. get_or l.index.heads n 0) (sym c.requires) ∙ e) (f.chained k c.args.item h p),
+    )
+
+-- the entry at a place
+read : {T : Type 0} (xs ys : List T) (k : ℕ) (y : T) → ys ≡ xs → k < length xs → y ≡ get_or ys k y → slice_get xs k ≡ Some y
+read xs ys k y e low is = slice_get_read xs _ k y refl low (is ∙ ap (λ (zs : List _). get_or zs k y) e)
+
+pub returns-then-eq : goal.returns-then-eq
+returns-then-eq g c =
+    read (entries c.args.self.now) c.as_slice.result.now (c.loop-at.at - 1) c.index-as_slice-at.result c.as_slice.ensures (omega (arith, c.loop-at.invariant.0)) c.index-as_slice-at.is
+    ∙ ap Some ((g.met.T.Entry.exact _ _).0 (sym c.eq.ensures ∙ c.if-eq.true))
+
+-- the entry at the place was compared, and is another
+pub loop-at-preserved : goal.loop-at-preserved
+loop-at-preserved g c =
+    let l = c.args.self.now in
+    let e = read (entries l) c.as_slice.result.now (c.loop-at.at - 1) c.index-as_slice-at.result c.as_slice.ensures (omega (arith, c.loop-at.invariant.0)) c.index-as_slice-at.is in (
+      omega (arith, c.next-at.ensures, c.loop-at.invariant.0),
+      λ f k h p. subst (λ (n : ℕ). Chained l.index.links.now n k) (sym c.next-at.ensures)
+          (chained-next l.index.links.now (c.loop-at.invariant.1 f k h p)
+          (λ z. both_ways _ (sym c.eq.ensures ∙ c.if-eq.false) ((g.met.T.Entry.exact c.index-as_slice-at.result c.args.item).1 (let s = ap (slice_get (entries l)) z in cc)))),
+    )
+
+pub returns : goal.returns
+unfolding entries
+returns g c =
+    let l = c.args.self.now in
+    λ k _ h p. ∥∥₁_elim l.orderly ⊥_prop (λ f. let r = chained-below (c.loop-at.invariant.1 f k h p) in omega (arith, c.loop-at-test.false))

@@ -1,0 +1,14 @@
+ghost use Rattle.std.specs.Prelude.{take};
+ghost use Rattle.records.specs.Orderly.{Orderly};
+
+use crate::entry::Entry;
+use crate::index::Index;
+
+// The first `used` of the records are in use. A slice with a length beside it, and no vector: a store's memory is lent to it.
+#[derive(Drop)]
+pub struct List<'a, T: Entry> {
+    pub(crate) records: &'a mut [T],
+    pub(crate) used: usize,
+    pub(crate) index: Index<'a>,
+    ghost orderly: { ∥ Orderly T.Entry.hashed (take used records.now) index ∥₁ },
+}
