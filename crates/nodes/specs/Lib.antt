@@ -4,3 +4,4 @@ pub mod Growth
 pub mod Shows
 pub mod Facts
 pub mod Identity
+pub mod Hash

@@ -3,6 +3,7 @@
 
 ghost use Rattle.std.specs.Prelude.{◌≡◌};
 ghost use Rattle.nodes.specs.Graph.{child};
+ghost use Rattle.nodes.specs.Hash.{mixed};
 ghost use Rattle.nodes.specs.Identity.{node_exact};
 
 use records::entry::Entry;
@@ -17,7 +18,16 @@ pub struct Node {
 }
 
 impl Entry for Node {
+    ghost hashed = { λ x. mixed x };
+
     ghost exact = { node_exact };
+
+    // The fields side by side, times 2 to the 64 by the golden ratio: the top bits of the product spread nodes with neighbouring children.
+    fn hash(self) -> u16 {
+        let children = u64::from(self.low) + 65536 * u64::from(self.high);
+        let fields = children + 65536 * 65536 * u64::from(self.variable);
+        (fields.wrapping_mul(0x9e37_79b9_7f4a_7c15) >> 48) as u16
+    }
 }
 
 impl Node {
