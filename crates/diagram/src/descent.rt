@@ -53,9 +53,8 @@ impl Diagram<'_> {
     {
         match task {
             Task::Variable(i) => i,
-            Task::Not(a) => self.top(a),
+            Task::Not(a) | Task::Cofactor(a, _, _) => self.top(a),
             Task::Both(_, a, b) => self.top(a).min(self.top(b)),
-            Task::Cofactor(a, _, _) => self.top(a),
         }
     }
 

@@ -40,11 +40,10 @@ impl Diagram<'_> {
     // The node of a number, and none for a constant.
     // Each reader asks that its number is held: a type that says so would hold the diagram, which grows while numbers wait.
     fn node(&self, a: u16) -> Option<Node>
-        requires { a < length (listed self.now) + 2 }
         ensures { result ≡ node_under (listed self.now) a }
     {
         let place = a.checked_sub(2)?;
-        Some(*self.nodes.get(usize::from(place)).unwrap())
+        self.nodes.get(usize::from(place)).copied()
     }
 
     // The variable on top of a, and the number of variables for a constant.
@@ -70,7 +69,6 @@ impl Diagram<'_> {
 
     // The truth of a at the valuation w.
     pub(super) fn truth(&self, a: u16, w: u32) -> bool
-        requires { a < length (listed self.now) + 2 }
         ensures { result ≡ value (listed self.now) a w }
     {
         let mut at = a;

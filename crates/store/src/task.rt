@@ -25,7 +25,7 @@ impl Task {
     pub fn check(self, held: usize, variables: u8) -> Result<(), Refusal>
         ensures { result ≡ allowed (names (λ a. nat_lt a held) self) (ranges variables self) }
     {
-        let holds = |a: u16| (a as usize) < held;
+        let holds = |a: u16| usize::from(a) < held;
         let (operands, within) = match self {
             Task::Variable(i) => (true, i < variables),
             Task::Not(a) => (holds(a), true),
@@ -40,7 +40,7 @@ impl Task {
 pub fn check_value(a: u16, w: u32, held: usize, variables: u8) -> Result<(), Refusal>
     ensures { result ≡ allowed (nat_lt a held) (nat_lt w (2 ^ variables)) }
 {
-    refused((a as usize) < held, variables >= 32 || w < 1 << variables)
+    refused(usize::from(a) < held, variables >= 32 || w < 1 << variables)
 }
 
 // By whether the numbers are held, and whether the variable or the valuation is in range.
