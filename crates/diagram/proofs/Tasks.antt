@@ -7,6 +7,7 @@ use Rattle.store.specs.Fun.{bit, fix, fixed, Same}
 use Rattle.store.proofs.Bit.{bit_fixed_same, bit_fixed_other, fixed_lt, fixed_comm}
 use Rattle.nodes.specs.Graph.{value, top}
 use Rattle.nodes.specs.Growth.{Ext, Halved, Splits}
+use Rattle.nodes.proofs.Reading.{reads}
 use Rattle.nodes.proofs.Values.{value_free}
 use Rattle.diagram.specs.declared.Diagram.{Diagram}
 use Rattle.store.specs.declared.task.Op.{Op}
@@ -16,7 +17,7 @@ use Rattle.diagram.specs.Asked.{peak, Before}
 use Rattle.diagram.specs.Making.{Settled, HalvedTask}
 use Rattle.diagram.specs.Plain.{Plain}
 use Rattle.diagram.specs.Shows.{listed, capacity, showing}
-use Rattle.diagram.proofs.Fields.{sound_of, read_of}
+use Rattle.diagram.proofs.Fields.{sound_of}
 use Rattle.diagram.proofs.Grown.{Number, number, both_held, grown_posed, grown_peak, grown_asked}
 
 -- in a diagram that has grown, a task asks for the same
@@ -78,7 +79,7 @@ module _ (d : Diagram) where
   inner_top : (a : ℕ) → Number (listed d) a → 2 ≤ a → top d.n (listed d) a < d.n
   inner_top zero h l = absurd (omega arith)
   inner_top (suc zero) h l = absurd (omega arith)
-  inner_top (suc (suc k)) h l = (read_of d (suc (suc k)) (number (listed d) _ h) _ refl).below
+  inner_top (suc (suc k)) h l = (reads d.n (listed d) (sound_of d) k (omega (arith, number (listed d) (suc (suc k)) h))).below
 
   pub settled_both : (op : Op) (a b : ℕ) (r : Option ℕ) → Posed (showing d) (Both op a b) → Plain op a b r → Settled d (Both op a b) r
   settled_both op a b None p q = let l = inner_top a (both_held d.n (capacity d) (listed d) op a b p).0 q.0 in (omega arith, tt)
