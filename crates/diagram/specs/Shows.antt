@@ -1,6 +1,5 @@
 -- What a diagram shows to the user of a store.
-use Rattle.std.specs.Prelude.{ℕ, zero, suc, Bool, List, Option, None}
-use Rattle.std.specs.List.{slice_get}
+use Rattle.std.specs.Prelude.{ℕ, Bool, List}
 use Rattle.records.specs.Contents.{entries, room}
 use Rattle.store.specs.Fitting.{fits}
 use Rattle.store.specs.Meaning.{Shown}
@@ -16,12 +15,6 @@ capacity d = room d.nodes
 
 abbrev pub showing : Diagram → Shown
 showing d = shown d.n (listed d) (capacity d)
-
--- the node of number a, and none for a constant and for a number that is not held
-abbrev pub node_under : List Node → ℕ → Option Node
-node_under xs zero = None
-node_under xs (suc zero) = None
-node_under xs (suc (suc k)) = slice_get xs k
 
 -- whether a diagram of n variables can be made over so many records
 abbrev pub suits : ℕ → ℕ → Bool

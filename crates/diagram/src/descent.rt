@@ -48,7 +48,6 @@ impl Diagram<'_> {
 
     // The first variable that the function may depend on.
     fn peak(&self, task: Task) -> u8
-        requires { Posed (showing self.now) task }
         ensures { result ≡ peak self.now.n (listed self.now) task }
     {
         match task {

@@ -1,7 +1,8 @@
 use Rattle.std.proofs.Common.{sym, ◌∙◌, arith}
 use Rattle.store.proofs.Bit.{bit_shift}
+use Rattle.nodes.proofs.Values.{value_bare}
 use Rattle.diagram.specs.Shows.{listed}
-use Rattle.diagram.proofs.Fields.{read_of, bare}
+use Rattle.diagram.proofs.Fields.{read_of}
 use Rattle.diagram.proofs.Diagram.truth.Goals as goal
 
 pub loop-node-preserved : goal.loop-node-preserved
@@ -18,4 +19,4 @@ loop-node-smaller c =
     omega (arith, r.less c.bit.result, c.child-at.ensures)
 
 pub returns : goal.returns
-returns c = sym (bare (listed c.args.self.now) c.loop-node.at c.args.w c.in_default.ensures) ∙ c.loop-node.invariant
+returns c = sym (value_bare (listed c.args.self.now) c.loop-node.at c.args.w (sym c.in_default.ensures)) ∙ c.loop-node.invariant
