@@ -10,12 +10,6 @@ use Rattle.nodes.proofs.Laws.{lawful}
 use Rattle.nodes.proofs.Props.{sound_none}
 use Rattle.diagram.specs.Shows.{suits}
 
-pub suits_bounds : (n records : ℕ) → suits n records ≡ true → (1 ≤ n) × (n ≤ 24) × (records ≤ 65534)
-suits_bounds n records h =
-    let p = and_parts (leb 1 n && leb n 24) (leb records 65534) h in
-    let q = and_parts (leb 1 n) (leb n 24) p.0 in
-    (leb-true 1 n q.0, leb-true n 24 q.1, leb-true records 65534 p.1)
-
 -- no nodes in lent records
 module _ (n : ℕ) (l : Records Node) (c : ℕ) (empty : entries l ≡ []) (size : room l ≡ c) where
   pub begun : shown n (entries l) (room l) ≡ shown n [] c

@@ -48,15 +48,5 @@ fresh_shown n capacity = record { held = λ a. refl; used = refl }
 pub lawful_empty : (n capacity : ℕ) → n ≤ 10 → capacity ≤ 65534 → Lawful (shown n [] capacity)
 lawful_empty n capacity few small = lawful_shown n [] capacity few (omega arith) small (sound_empty n)
 
-pub suits_tells : (n records : ℕ) → suits n records ≡ true → (1 ≤ n) × (n ≤ 10) × (records ≤ 65534)
-suits_tells n records e =
-    let p = and_parts _ (leb records 65534) e in
-    let q = and_parts (leb 1 n) (leb n 10) p.0 in
-    (leb-true 1 n q.0, leb-true n 10 q.1, leb-true records 65534 p.1)
-
-pub fit_tells : (b : Bool) → false ≡ is_err (fitting b) → b ≡ true
-fit_tells true e = refl
-fit_tells false e = absurd (false≢true e)
-
 pub lawful_table : (d : Table) → Lawful (shows d)
 lawful_table d = lawful_shown d.n (entries d.list) (room d.list) d.few (entries_fit d.list) d.small d.apart

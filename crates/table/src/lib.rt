@@ -13,7 +13,7 @@ pub mod truths;
 use records::List;
 use store::Store;
 use store::figures::Figures;
-use store::fitting::fit;
+use store::fitting::{fit, fitted};
 use store::refusal::{Refusal, Unfit};
 use store::task::{Task, check_value};
 use truths::Truths;
@@ -29,11 +29,14 @@ pub struct Table<'a> {
     ghost apart: { sound n (entries list) ≡ true },
 }
 
+// The most variables of a table store.
+const MOST: u8 = 10;
+
 // Whether a table store of n variables can be made in the records.
 pub fn check(n: u8, records: &[Truths]) -> Result<(), Unfit>
     ensures { result ≡ fitting (suits n (length records.now)) }
 {
-    fit(n, 10, records)
+    fit(n, MOST, records)
 }
 
 impl<'a> Table<'a> {
@@ -43,12 +46,7 @@ impl<'a> Table<'a> {
         ensures fresh { Fresh (showing result.n result.list) }
         ensures lawful { Lawful (showing result.n result.list) }
     {
-        if check(n, records).is_err() {
-            return Table {
-                n: 1,
-                list: List::new(&mut []),
-            };
-        }
+        let (n, records) = fitted(n, MOST, records);
         Table {
             n,
             list: List::new(records),
