@@ -1,6 +1,5 @@
 -- A diagram that was just made.
-use Rattle.std.proofs.Common.{◌≡◌, ℕ, ◌≤◌, true, ◌&&◌, leb, [], sym, refl, subst, arith}
-use Rattle.std.proofs.lemmas.Bool.{and_parts, leb-true}
+use Rattle.std.proofs.Common.{◌≡◌, ℕ, ◌≤◌, [], sym, refl, subst, arith}
 use Rattle.records.specs.Contents.{entries, room}
 use Rattle.records.specs.declared.List.{List as Records}
 use Rattle.store.specs.Meaning.{Fresh, Lawful}
@@ -8,7 +7,6 @@ use Rattle.nodes.specs.declared.Node.{Node}
 use Rattle.nodes.specs.Shows.{shown}
 use Rattle.nodes.proofs.Laws.{lawful}
 use Rattle.nodes.proofs.Props.{sound_none}
-use Rattle.diagram.specs.Shows.{suits}
 
 -- no nodes in lent records
 module _ (n : ℕ) (l : Records Node) (c : ℕ) (empty : entries l ≡ []) (size : room l ≡ c) where

@@ -33,7 +33,7 @@ impl Diagram<'_> {
     }
 
     // The number of the task's function where a constant or the fixed variable gives it.
-    // Each step asks that the task is posed: a type that says so would hold the diagram, which grows between the halves.
+    // It asks that the task is posed, as `half` and `make` do: a type that says so would hold the diagram, which grows between the halves.
     fn at_once(&self, task: Task) -> Option<u16>
         requires { Posed (showing self.now) task }
         ensures { Settled self.now task result }

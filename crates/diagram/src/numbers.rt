@@ -30,13 +30,6 @@ impl Diagram<'_> {
         1 << self.n
     }
 
-    // The numbers below are held: the constants, and one for each node.
-    pub(super) fn held(&self) -> usize
-        ensures { result ≡ length (listed self.now) + 2 }
-    {
-        self.nodes.len() + 2
-    }
-
     // The node of a number, and none for a constant and for a number that is not held.
     fn node(&self, a: u16) -> Option<Node>
         ensures { result ≡ node_under (listed self.now) a }

@@ -1,7 +1,6 @@
 -- What a table store shows is lawful.
-use Rattle.std.proofs.Common.{◌≡◌, ℕ, ◌+◌, ◌≤◌, Bool, true, false, cond, leb, List, [], length, is_err, refl, ap, ⊎_elim, arith}
-use Rattle.std.proofs.lemmas.Bool.{cases_Bool, cases_order, cond-true, cond-false, cond_both, lt-ltb, ltb-true, leb-true, and_parts, false≢true}
-use Rattle.store.specs.Fitting.{fitting}
+use Rattle.std.proofs.Common.{◌≡◌, ℕ, ◌+◌, ◌≤◌, true, false, cond, List, [], length, refl, ap, ⊎_elim, arith}
+use Rattle.std.proofs.lemmas.Bool.{cases_Bool, cases_order, cond-true, cond-false, cond_both, lt-ltb, ltb-true}
 use Rattle.store.specs.Fun.{Fn}
 use Rattle.store.specs.Meaning.{Lawful, Fresh, holds, price}
 use Rattle.store.proofs.Same.{holds_like, same_refl, same_sym}
@@ -10,7 +9,7 @@ use Rattle.records.proofs.Contents.{entries_fit}
 use Rattle.table.specs.declared.Table.{Table}
 use Rattle.table.specs.Store.{shows}
 use Rattle.table.specs.declared.truths.Truths.{Truths}
-use Rattle.table.specs.Shows.{shown, sound, suits}
+use Rattle.table.specs.Shows.{shown, sound}
 use Rattle.table.proofs.Sound.{sound_tells, sound_empty}
 
 module _ (n : ℕ) (xs : List Truths) (capacity : ℕ) where

@@ -15,13 +15,6 @@ use store::refusal::Refusal;
 use store::task::{Op, Task};
 
 impl Table<'_> {
-    // How many numbers are held: those below.
-    pub(super) fn held(&self) -> usize
-        ensures { result ≡ length (entries self.now.list) + 2 }
-    {
-        self.list.len() + 2
-    }
-
     // The truth of the function under a number at w.
     pub(super) fn truth(&self, a: u16, w: u32) -> bool
         ensures { result ≡ value (entries self.now.list) a w }
