@@ -25,7 +25,7 @@ fn times(p: &[u8], j: u8) -> usize
 pub(super) fn is_order(n: u8, p: &[u8]) -> bool
     ensures { result ≡ is_order n p.now }
 {
-    p.len() == n as usize && (0..n).all(|j| times(p, j) == 1)
+    p.len() == usize::from(n) && (0..n).all(|j| times(p, j) == 1)
 }
 
 // The order of no variables. A struct with a ghost field derives no Default.
@@ -56,10 +56,10 @@ impl Order {
     pub(super) fn variable_below(&self, n: u8, i: u8) -> u8
         ensures { result ≡ order_of n self.now.places.items i }
     {
-        if self.places.len() != n as usize {
+        if self.places.len() != usize::from(n) {
             return i;
         }
-        self.places.get(i as usize).copied().unwrap_or(i)
+        self.places.get(usize::from(i)).copied().unwrap_or(i)
     }
 
     // The task below, of n variables: its variable is the one below.
