@@ -1,7 +1,9 @@
 -- A diagram that was just made.
 use Rattle.std.proofs.Common.{◌≡◌, ℕ, ◌≤◌, [], sym, refl, subst, arith}
 use Rattle.records.specs.Contents.{entries, room}
-use Rattle.records.specs.declared.List.{List as Records}
+use Rattle.std.specs.declared.cmp.PartialEq as eq
+use Rattle.records.specs.declared.entry.Entry as entry
+use Rattle.records.specs.declared.list.List.{List as Records}
 use Rattle.store.specs.Meaning.{Fresh, Lawful}
 use Rattle.nodes.specs.declared.Node.{Node}
 use Rattle.nodes.specs.Shows.{shown}
@@ -9,7 +11,7 @@ use Rattle.nodes.proofs.Laws.{lawful}
 use Rattle.nodes.proofs.Props.{sound_none}
 
 -- no nodes in lent records
-module _ (n : ℕ) (l : Records Node) (c : ℕ) (empty : entries l ≡ []) (size : room l ≡ c) where
+module _ {e : entry.Ghosts Node} {p : eq.Ghosts Node} (n : ℕ) (l : Records Node e p) (c : ℕ) (empty : entries l ≡ []) (size : room l ≡ c) where
   pub begun : shown n (entries l) (room l) ≡ shown n [] c
   begun = λ i. shown n (empty i) (size i)
 

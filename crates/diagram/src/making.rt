@@ -25,7 +25,8 @@ pub fn check(n: u8, records: &[Node]) -> Result<(), Unfit>
 
 impl<'a> Diagram<'a> {
     // The empty diagrams of n variables in the records; of 1 variable in no records where the check refuses.
-    pub fn new(n: u8, records: &'a mut [Node]) -> Diagram<'a>
+    // As many nodes as there are links are found at once, and later ones by a scan.
+    pub fn new(n: u8, records: &'a mut [Node], links: &'a mut [u16]) -> Diagram<'a>
         ensures shows { showing result ≡ (if suits n (length records.old) then shown n [] (length records.old) else shown 1 [] 0) }
         ensures fresh { Fresh (showing result) }
         ensures lawful { Lawful (showing result) }
@@ -33,7 +34,7 @@ impl<'a> Diagram<'a> {
         let (n, records) = fitted(n, MOST, records);
         Diagram {
             n,
-            nodes: List::new(records),
+            nodes: List::new(records, links),
             memo: Memo::new(),
         }
     }

@@ -9,7 +9,9 @@ use Rattle.std.proofs.lemmas.Option.{slice_get-get_or, slice_get_within}
 use Rattle.std.proofs.lemmas.Bool.{lt-ltb, ltb-true, not-true, both_ways}
 use Rattle.std.proofs.lemmas.Bool.Decides.{Decides-not}
 use Rattle.records.specs.declared.Full.{Full}
-use Rattle.records.specs.declared.List.{List as Records}
+use Rattle.std.specs.declared.cmp.PartialEq as eq
+use Rattle.records.specs.declared.entry.Entry as entry
+use Rattle.records.specs.declared.list.List.{List as Records}
 use Rattle.records.specs.Contents.{entries, room}
 use Rattle.records.specs.Placing.{Places, Answers as LookedUp}
 use Rattle.records.proofs.Contents.{entries_fit}
@@ -139,7 +141,7 @@ module _ (n : ℕ) (xs : List Truths) (capacity : ℕ) (few : n ≤ 10) (fits : 
         (ap (λ zs. shown n zs capacity) h.2, omega (arith, price_one n xs capacity f (not_held h.1), h.0), omega (arith, h.0))
 
 -- what is then so of a store d whose list has become m, by the look-up of x, the table of f, which is no constant
-module _ (d : Table) (m : Records Truths) (f : Fn) (x : Truths) (is : x ≡ table d.n f) (none : Constant d.n (truth x) None) (p : Result ℕ Full) (h : Places d.list x p m) where
+module _ (d : Table) (m : Records Truths _ _) (f : Fn) (x : Truths) (is : x ≡ table d.n f) (none : Constant d.n (truth x) None) (p : Result ℕ Full) (h : Places d.list x p m) where
   mixed : (b : Bool) → Same d.n f (λ _. b) → ⊥
   mixed = constant_of d.n f x None d.few is none
 

@@ -1,4 +1,5 @@
 pub mod Tables
 pub mod Shows
 pub mod Identity
+pub mod Hash
 pub mod Store

@@ -1,7 +1,9 @@
 -- What a table store of n variables with the tables xs shows to its user.
 use Rattle.std.specs.Prelude.{ℕ, zero, suc, ◌+◌, Bool, true, false, cond, not, ◌&&◌, List, [], ◌∷◌, length, Some, None, Option, nat_lt}
 use Rattle.std.specs.List.{slice_get}
-use Rattle.records.specs.declared.List.{List as Records}
+use Rattle.std.specs.declared.cmp.PartialEq as eq
+use Rattle.records.specs.declared.entry.Entry as entry
+use Rattle.records.specs.declared.list.List.{List as Records}
 use Rattle.records.specs.Contents.{entries, room}
 use Rattle.std.specs.Str.{bytes_eq}
 use Rattle.store.specs.Fitting.{fits}
@@ -33,7 +35,7 @@ shown n xs capacity = record {
 }
 
 -- with the tables in a list of records
-abbrev pub showing : ℕ → Records Truths → Shown
+abbrev pub showing : {e : entry.Ghosts Truths} {p : eq.Ghosts Truths} → ℕ → Records Truths e p → Shown
 showing n l = shown n (entries l) (room l)
 
 -- whether each table is that of its function, with the bits from 2^n on 0

@@ -42,7 +42,8 @@ pub fn check(n: u8, records: &[Truths]) -> Result<(), Unfit>
 
 impl<'a> Table<'a> {
     // An empty store of n variables in the records; of 1 variable and no records, where these do not suit.
-    pub fn new(n: u8, records: &'a mut [Truths]) -> Table<'a>
+    // As many tables as there are links are found at once, and later ones by a scan.
+    pub fn new(n: u8, records: &'a mut [Truths], links: &'a mut [u16]) -> Table<'a>
         ensures shows { showing result.n result.list ≡ (if suits n (length records.old) then shown n [] (length records.old) else shown 1 [] 0) }
         ensures fresh { Fresh (showing result.n result.list) }
         ensures lawful { Lawful (showing result.n result.list) }
@@ -50,7 +51,7 @@ impl<'a> Table<'a> {
         let (n, records) = fitted(n, MOST, records);
         Table {
             n,
-            list: List::new(records),
+            list: List::new(records, links),
         }
     }
 }

@@ -2,6 +2,7 @@
 ghost use Rattle.std.specs.Prelude.{◌≡◌, ◌*◌, ◌^◌, ◌<◌, ◌≤◌};
 ghost use Rattle.store.specs.Fun.{Fn};
 ghost use Rattle.table.specs.Tables.{truth, packed, packed_truths, table, Constant, Computes};
+ghost use Rattle.table.specs.Hash.{mixed};
 ghost use Rattle.table.specs.Identity.{truths_exact};
 
 use records::entry::Entry;
@@ -15,7 +16,16 @@ pub struct Truths {
 }
 
 impl Entry for Truths {
+    ghost hashed = { λ t. mixed t };
+
     ghost exact = { truths_exact };
+
+    // The first bytes tell functions of few variables apart, and the others help with more.
+    fn hash(self) -> u16 {
+        let low = u16::from(self.bytes[0]) + 64 * u16::from(self.bytes[1]);
+        let high = 91 * u16::from(self.bytes[3]) + 101 * u16::from(self.bytes[127]);
+        low + high
+    }
 }
 
 impl Truths {
