@@ -1,8 +1,8 @@
 -- Chains of places.
-use Rattle.std.proofs.Common.{◌≡◌, ℕ, suc, ◌+◌, ◌-◌, ◌<◌, ◌≤◌, min, ◌≢◌, List, length, get_or, set, sym, refl, ap, ◌∙◌, subst, ⊎_elim, arith}
+use Rattle.std.proofs.Common.{◌≡◌, ℕ, suc, ◌-◌, ◌<◌, ◌≤◌, min, ◌≢◌, List, length, get_or, set, sym, subst, ⊎_elim, arith}
 use Rattle.std.proofs.lemmas.List.{get_or-set_other, get_or_past}
 use Rattle.std.proofs.lemmas.Bool.{cases_lt}
-use Rattle.records.specs.Chains.{Chained, here, there, Unwound}
+use Rattle.records.specs.Chains.{Chained, here, there}
 
 -- a chain leads to earlier places
 pub chained-below : {links : List ℕ} {at k : ℕ} → Chained links at k → k < at

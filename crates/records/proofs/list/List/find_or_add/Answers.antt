@@ -1,11 +1,10 @@
-use Rattle.std.proofs.Common.{◌≡◌, ℕ, ◌+◌, ◌<◌, ◌≤◌, ◌%◌, List, [], ◌∷◌, ◌++◌, length, take, set, None, refl, ap, sym, ◌∙◌, subst, arith, inl, inr, length-set}
+use Rattle.std.proofs.Common.{◌≡◌, ℕ, ◌+◌, ◌<◌, ◌%◌, List, [], ◌∷◌, ◌++◌, length, take, set, refl, ap, ◌∙◌, subst, arith, inl, inr, length-set}
 use mathlib.Core.Logic.{∥∥₁_map}
 use Rattle.std.proofs.lemmas.Nat.{mod_below}
-use Rattle.records.specs.Chains.{buckets, limit, Newest}
+use Rattle.records.specs.Chains.{buckets, Newest}
 use Rattle.records.specs.Contents.{entries, room}
-use Rattle.records.specs.Placing.{Absent, Finds}
 use Rattle.records.proofs.Contents.{entries_fit, pushed}
-use Rattle.records.proofs.Order.{is_lowest, orderly_past, orderly_more}
+use Rattle.records.proofs.Order.{orderly_past, orderly_more}
 use Rattle.records.proofs.list.List.find_or_add.Goals as goal
 
 pub place-requires : goal.place-requires

@@ -1,13 +1,12 @@
-use Rattle.std.proofs.Common.{◌≡◌, ℕ, ◌%◌, ◌<◌, ◌-◌, List, length, get_or, Some, sym, refl, ap, ◌∙◌, subst, arith}
+use Rattle.std.proofs.Common.{◌≡◌, ℕ, ◌<◌, ◌-◌, List, length, get_or, Some, sym, refl, ap, ◌∙◌, subst, arith}
 use mathlib.Core.Logic.{∥∥₁_elim}
-use mathlib.Core.HLevel.{Π_prop, ⊥_prop}
+use mathlib.Core.HLevel.{⊥_prop}
 use Rattle.std.specs.List.{slice_get}
 use Rattle.std.proofs.lemmas.Nat.{mod_below}
 use Rattle.std.proofs.lemmas.Option.{slice_get_read}
 use Rattle.std.proofs.lemmas.Bool.{both_ways}
 use Rattle.records.specs.Chains.{buckets, Chained}
 use Rattle.records.specs.Contents.{entries}
-use Rattle.records.specs.Orderly.{filed}
 use Rattle.records.proofs.Chains.{chained-below, chained-next}
 use Rattle.records.proofs.list.List.on_chain.Goals as goal
 

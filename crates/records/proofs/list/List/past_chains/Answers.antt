@@ -1,5 +1,4 @@
-use Rattle.std.proofs.Common.{ℕ, ◌+◌, length, sym, ap, ◌∙◌, subst, arith}
-use Rattle.std.specs.List.{slice_get}
+use Rattle.std.proofs.Common.{length, sym, subst, arith}
 use Rattle.records.specs.Contents.{entries}
 use Rattle.records.specs.Orderly.{filed}
 use Rattle.records.specs.Placing.{Among}

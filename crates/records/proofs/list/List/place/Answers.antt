@@ -19,7 +19,7 @@ returns g c =
     let xs = entries l in
     let by : (r : Option ℕ) → Among xs c.args.item (filed xs l.index) (length xs) r → Finds xs c.args.item r = ends in
     by c.past_chains.result c.past_chains.ensures
-    where
-      ends : (r : Option ℕ) → Among (entries c.args.self.now) c.args.item (filed (entries c.args.self.now) c.args.self.now.index) (length (entries c.args.self.now)) r → Finds (entries c.args.self.now) c.args.item r
-      ends (Some k) e = (e, is_lowest g.T.Entry.hashed (entries c.args.self.now) c.args.self.now.index c.args.item c.args.self.now.orderly k e)
-      ends None e = stands_nowhere (entries c.args.self.now) c.args.item (filed (entries c.args.self.now) c.args.self.now.index) c.in_default.ensures e
+  where
+    ends : (r : Option ℕ) → Among (entries c.args.self.now) c.args.item (filed (entries c.args.self.now) c.args.self.now.index) (length (entries c.args.self.now)) r → Finds (entries c.args.self.now) c.args.item r
+    ends (Some k) e = (e, is_lowest g.T.Entry.hashed (entries c.args.self.now) c.args.self.now.index c.args.item c.args.self.now.orderly k e)
+    ends None e = stands_nowhere (entries c.args.self.now) c.args.item (filed (entries c.args.self.now) c.args.self.now.index) c.in_default.ensures e
