@@ -55,9 +55,7 @@ impl<S: Store> Session<S> {
         ensures next { Next (world S.Store.shows self.old) (advance result) (world S.Store.shows self.new) }
         ensures refused { is_err result ≡ true → self.new.search ≡ self.old.search }
     {
-        match self.search.as_mut() {
-            Some(search) => search.advance(&mut self.store),
-            None => Err(Fault::Empty),
-        }
+        let search = self.search.as_mut().ok_or(Fault::Empty)?;
+        search.advance(&mut self.store)
     }
 }
