@@ -10,7 +10,7 @@ use super::search::Search;
 use super::session::Session;
 use description::part::Part;
 use making::fault::Fault;
-use making::{back, place_at};
+use making::{FALSE, back, place_at};
 use store::Store;
 use uses::verdict::Verdict;
 
@@ -24,7 +24,7 @@ impl Search {
         let set = place_at(back(store, self.set, &self.parts), Part::Sets, count)?;
         let verdict = if set == self.set {
             Verdict::Safe
-        } else if place_at(store.and(set, self.parts.init), Part::Sets, count)? == 0 {
+        } else if place_at(store.and(set, self.parts.init), Part::Sets, count)? == FALSE {
             Verdict::Open
         } else {
             Verdict::Unsafe(count + 1)

@@ -9,7 +9,6 @@ use Rattle.runs.specs.Valuations.{set_fn}
 use Rattle.runs.proofs.Traces.{traces}
 use Rattle.engine.specs.Keeping.{Sets}
 use Rattle.engine.specs.declared.search.Search.{Search}
-use Rattle.engine.specs.declared.step.Step.{Step}
 use Rattle.engine.specs.Questions.{Finds, GoesTo}
 use Rattle.store.specs.Meaning.{Shown}
 use Rattle.store.specs.Fun.{some}

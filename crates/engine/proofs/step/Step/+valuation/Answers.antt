@@ -1,4 +1,4 @@
-use Rattle.std.proofs.Common.{◌+◌, ◌-◌, ◌*◌, ◌%◌, ◌<◌, arith}
+use Rattle.std.proofs.Common.{◌-◌, ◌<◌, arith}
 use Rattle.engine.proofs.Spreads.{spread_step, four, four_few}
 use Rattle.engine.proofs.step.Step.+valuation.Goals as goal
 
