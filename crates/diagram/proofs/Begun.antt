@@ -1,6 +1,5 @@
 -- A diagram that was just made.
-use Rattle.std.proofs.Common.{◌≡◌, ℕ, ◌≤◌, true, ◌&&◌, leb, [], sym, refl, subst, arith}
-use Rattle.std.proofs.lemmas.Bool.{and_parts, leb-true}
+use Rattle.std.proofs.Common.{◌≡◌, ℕ, ◌≤◌, [], sym, refl, subst, arith}
 use Rattle.records.specs.Contents.{entries, room}
 use Rattle.records.specs.declared.List.{List as Records}
 use Rattle.store.specs.Meaning.{Fresh, Lawful}
@@ -8,13 +7,6 @@ use Rattle.nodes.specs.declared.Node.{Node}
 use Rattle.nodes.specs.Shows.{shown}
 use Rattle.nodes.proofs.Laws.{lawful}
 use Rattle.nodes.proofs.Props.{sound_none}
-use Rattle.diagram.specs.Shows.{suits}
-
-pub suits_bounds : (n records : ℕ) → suits n records ≡ true → (1 ≤ n) × (n ≤ 24) × (records ≤ 65534)
-suits_bounds n records h =
-    let p = and_parts (leb 1 n && leb n 24) (leb records 65534) h in
-    let q = and_parts (leb 1 n) (leb n 24) p.0 in
-    (leb-true 1 n q.0, leb-true n 24 q.1, leb-true records 65534 p.1)
 
 -- no nodes in lent records
 module _ (n : ℕ) (l : Records Node) (c : ℕ) (empty : entries l ≡ []) (size : room l ≡ c) where

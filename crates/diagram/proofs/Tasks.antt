@@ -7,6 +7,7 @@ use Rattle.store.specs.Fun.{bit, fix, fixed, Same}
 use Rattle.store.proofs.Bit.{bit_fixed_same, bit_fixed_other, fixed_lt, fixed_comm}
 use Rattle.nodes.specs.Graph.{value, top}
 use Rattle.nodes.specs.Growth.{Ext, Halved, Splits}
+use Rattle.nodes.proofs.Reading.{reads}
 use Rattle.nodes.proofs.Values.{value_free}
 use Rattle.diagram.specs.declared.Diagram.{Diagram}
 use Rattle.store.specs.declared.task.Op.{Op}
@@ -16,7 +17,7 @@ use Rattle.diagram.specs.Asked.{peak, Before}
 use Rattle.diagram.specs.Making.{Settled, HalvedTask}
 use Rattle.diagram.specs.Plain.{Plain}
 use Rattle.diagram.specs.Shows.{listed, capacity, showing}
-use Rattle.diagram.proofs.Fields.{sound_of, read_of}
+use Rattle.diagram.proofs.Fields.{sound_of}
 use Rattle.diagram.proofs.Grown.{Number, number, both_held, grown_posed, grown_peak, grown_asked}
 
 -- in a diagram that has grown, a task asks for the same
@@ -50,8 +51,8 @@ module _ (d : Diagram) where
   splits_task task v p below u b half h =
       record { below = below; half = λ t. (h t).means; free = λ j t l. free_task task v j t p u b l }
 
-  held_number : (a v : ℕ) (t : Bool) (r : ℕ) → Halved d.n (listed d) a v t r → Number (listed d) r
-  held_number a v t r h = lt-ltb r (length (listed d) + 2) h.held
+  held_number : (a v : ℕ) (t : Bool) (r : ℕ) → Number (listed d) a → Halved d.n (listed d) a v t r → Number (listed d) r
+  held_number a v t r n h = lt-ltb r (length (listed d) + 2) (h.held (number (listed d) a n))
 
   -- the halves of a variable are the constants
   pub half_variable : (i v : ℕ) → v ≡ i → v < d.n → (t : Bool) → HalvedTask d (Variable i) v t (Not (bool_byte (not t)))
@@ -69,16 +70,16 @@ module _ (d : Diagram) where
   pub half_cofactor : (a i : ℕ) (s : Bool) (v : ℕ) (t : Bool) (r : ℕ) → Posed (showing d) (Cofactor a i s) → v < i → Halved d.n (listed d) a v t r
       → HalvedTask d (Cofactor a i s) v t (Cofactor r i s)
   half_cofactor a i s v t r p l h = record {
-    posed = (held_number a v t r h, p.1);
+    posed = (held_number a v t r p.0 h, p.1);
     under = h.under;
     means = λ w lt. ap (value (listed d) a) (fixed_comm i v s t w (λ e. omega arith)) ∙ h.means (fixed i s w) (fixed_lt d.n i s w (ltb-true i d.n p.1) lt);
   }
 
   -- what a number that is no constant has on top
-  inner_top : (a : ℕ) → Number (listed d) a → 2 ≤ a → top d.n (listed d) a < d.n
+  pub inner_top : (a : ℕ) → Number (listed d) a → 2 ≤ a → top d.n (listed d) a < d.n
   inner_top zero h l = absurd (omega arith)
   inner_top (suc zero) h l = absurd (omega arith)
-  inner_top (suc (suc k)) h l = (read_of d (suc (suc k)) (number (listed d) _ h) _ refl).below
+  inner_top (suc (suc k)) h l = let r = reads d.n (listed d) (sound_of d) k (omega (arith, number (listed d) (suc (suc k)) h)) in omega (arith, r.variable, r.below)
 
   pub settled_both : (op : Op) (a b : ℕ) (r : Option ℕ) → Posed (showing d) (Both op a b) → Plain op a b r → Settled d (Both op a b) r
   settled_both op a b None p q = let l = inner_top a (both_held d.n (capacity d) (listed d) op a b p).0 q.0 in (omega arith, tt)

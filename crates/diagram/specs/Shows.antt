@@ -1,10 +1,9 @@
 -- What a diagram shows to the user of a store.
-use Rattle.std.specs.Prelude.{ℕ, zero, suc, Bool, List, Option, Some, None}
+use Rattle.std.specs.Prelude.{ℕ, Bool, List}
 use Rattle.records.specs.Contents.{entries, room}
 use Rattle.store.specs.Fitting.{fits}
 use Rattle.store.specs.Meaning.{Shown}
 use Rattle.nodes.specs.declared.Node.{Node}
-use Rattle.nodes.specs.Graph.{node}
 use Rattle.nodes.specs.Shows.{shown}
 use Rattle.diagram.specs.declared.Diagram.{Diagram}
 
@@ -16,12 +15,6 @@ capacity d = room d.nodes
 
 abbrev pub showing : Diagram → Shown
 showing d = shown d.n (listed d) (capacity d)
-
--- the node of number a, and none for a constant
-abbrev pub node_under : List Node → ℕ → Option Node
-node_under xs zero = None
-node_under xs (suc zero) = None
-node_under xs (suc (suc k)) = Some (node xs k)
 
 -- whether a diagram of n variables can be made over so many records
 abbrev pub suits : ℕ → ℕ → Bool

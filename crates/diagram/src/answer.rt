@@ -12,14 +12,11 @@ impl Diagram<'_> {
     pub(super) fn finish(&mut self, used: usize, made: Result<u16, Full>) -> Result<u16, Refusal>
         ensures { Finishes self.old self.new used made result }
     {
-        // A match: after `map_err` the proof knows nothing of what its closure changed.
-        match made {
-            Ok(number) => Ok(number),
-            Err(_) => {
-                self.nodes.truncate(used);
-                self.memo = Memo::new();
-                Err(Refusal::Room(self.capacity() - self.used()))
-            }
+        if let Ok(number) = made {
+            return Ok(number);
         }
+        self.nodes.truncate(used);
+        self.memo = Memo::new();
+        Err(Refusal::Room(self.capacity() - self.used()))
     }
 }

@@ -11,15 +11,15 @@ impl Store for Diagram<'_> {
     ghost shows = { λ d. showing d };
 
     fn answer(&mut self, task: Task) -> Result<u16, Refusal> {
-        task.check(self.held(), self.n)?;
         let used = self.nodes.len();
+        task.check(used, self.n)?;
         let made = self.make(task);
         self.finish(used, made)
     }
 
-    // Each make says this: a trait that said it once would show the truth of a number that may not be held.
+    // Each make says this: to say it once, the trait would ask three more methods of every store, of a layer too.
     fn value(&mut self, a: u16, w: u32) -> Result<bool, Refusal> {
-        check_value(a, w, self.held(), self.n)?;
+        check_value(a, w, self.nodes.len(), self.n)?;
         Ok(self.truth(a, w))
     }
 

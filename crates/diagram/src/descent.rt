@@ -33,7 +33,7 @@ impl Diagram<'_> {
     }
 
     // The number of the task's function where a constant or the fixed variable gives it.
-    // Each step asks that the task is posed: a type that says so would hold the diagram, which grows between the halves.
+    // It asks that the task is posed, as `half` and `make` do: a type that says so would hold the diagram, which grows between the halves.
     fn at_once(&self, task: Task) -> Option<u16>
         requires { Posed (showing self.now) task }
         ensures { Settled self.now task result }
@@ -48,14 +48,12 @@ impl Diagram<'_> {
 
     // The first variable that the function may depend on.
     fn peak(&self, task: Task) -> u8
-        requires { Posed (showing self.now) task }
         ensures { result ≡ peak self.now.n (listed self.now) task }
     {
         match task {
             Task::Variable(i) => i,
-            Task::Not(a) => self.top(a),
+            Task::Not(a) | Task::Cofactor(a, _, _) => self.top(a),
             Task::Both(_, a, b) => self.top(a).min(self.top(b)),
-            Task::Cofactor(a, _, _) => self.top(a),
         }
     }
 

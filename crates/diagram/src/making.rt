@@ -1,5 +1,5 @@
 // How a diagram store is made: a check alone refuses, and the making never does.
-ghost use Rattle.std.specs.Prelude.{◌≡◌, true, [], length, if◌then◌else◌, Ok, Err};
+ghost use Rattle.std.specs.Prelude.{◌≡◌, [], length, if◌then◌else◌, Ok, Err};
 ghost use Rattle.store.specs.Meaning.{Fresh, Lawful};
 ghost use Rattle.store.specs.declared.refusal.Unfit.TheVariants.{Store as Outside};
 ghost use Rattle.nodes.specs.Shows.{shown};
@@ -9,14 +9,18 @@ use super::Diagram;
 use super::memo::Memo;
 use nodes::Node;
 use records::List;
-use store::fitting::fit;
+use store::fitting::{fit, fitted};
 use store::refusal::Unfit;
 
+// The most variables of a diagram store.
+const MOST: u8 = 24;
+
 // Whether a diagram store of n variables can be made in the records.
+// The two stay apart: here the records are only looked at, and `new` takes them.
 pub fn check(n: u8, records: &[Node]) -> Result<(), Unfit>
     ensures { result ≡ (if suits n (length records.now) then Ok tt else Err Outside) }
 {
-    fit(n, 24, records)
+    fit(n, MOST, records)
 }
 
 impl<'a> Diagram<'a> {
@@ -26,19 +30,7 @@ impl<'a> Diagram<'a> {
         ensures fresh { Fresh (showing result) }
         ensures lawful { Lawful (showing result) }
     {
-        if check(n, records).is_ok() {
-            Diagram::empty(n, records)
-        } else {
-            Diagram::empty(1, &mut [])
-        }
-    }
-
-    fn empty(n: u8, records: &'a mut [Node]) -> Diagram<'a>
-        requires { suits n (length records.old) ≡ true }
-        ensures shows { showing result ≡ shown n [] (length records.old) }
-        ensures fresh { Fresh (showing result) }
-        ensures lawful { Lawful (showing result) }
-    {
+        let (n, records) = fitted(n, MOST, records);
         Diagram {
             n,
             nodes: List::new(records),

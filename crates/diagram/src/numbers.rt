@@ -1,9 +1,9 @@
 // What a diagram knows of its size and of its function numbers.
 ghost use Rattle.std.specs.Prelude.{◌≡◌, ◌+◌, ◌^◌, ◌<◌, ◌≤◌, length};
 ghost use Rattle.store.specs.Meaning.{Lawful};
-ghost use Rattle.nodes.specs.Graph.{top, value};
+ghost use Rattle.nodes.specs.Graph.{node_under, top, value};
 ghost use Rattle.nodes.specs.Growth.{Halved};
-ghost use Rattle.diagram.specs.Shows.{listed, capacity, showing, node_under};
+ghost use Rattle.diagram.specs.Shows.{listed, capacity, showing};
 
 use super::Diagram;
 use nodes::Node;
@@ -30,26 +30,16 @@ impl Diagram<'_> {
         1 << self.n
     }
 
-    // The numbers below are held: the constants, and one for each node.
-    pub(super) fn held(&self) -> usize
-        ensures { result ≡ length (listed self.now) + 2 }
-    {
-        self.nodes.len() + 2
-    }
-
-    // The node of a number, and none for a constant.
-    // Each reader asks that its number is held: a type that says so would hold the diagram, which grows while numbers wait.
+    // The node of a number, and none for a constant and for a number that is not held.
     fn node(&self, a: u16) -> Option<Node>
-        requires { a < length (listed self.now) + 2 }
         ensures { result ≡ node_under (listed self.now) a }
     {
         let place = a.checked_sub(2)?;
-        Some(*self.nodes.get(usize::from(place)).unwrap())
+        self.nodes.get(usize::from(place)).copied()
     }
 
-    // The variable on top of a, and the number of variables for a constant.
+    // The variable on top of a, and the number of variables where a has no node.
     pub(super) fn top(&self, a: u16) -> u8
-        requires { a < length (listed self.now) + 2 }
         ensures { result ≡ top self.now.n (listed self.now) a }
     {
         self.node(a).map_or(self.n, |node| node.variable)
@@ -57,7 +47,6 @@ impl Diagram<'_> {
 
     // The number of a with a variable fixed to t that a has not below its top.
     pub(super) fn child(&self, a: u16, variable: u8, t: bool) -> u16
-        requires held { a < length (listed self.now) + 2 }
         requires below { variable < self.now.n }
         requires over { variable ≤ top self.now.n (listed self.now) a }
         ensures { Halved self.now.n (listed self.now) a variable t result }
@@ -70,7 +59,6 @@ impl Diagram<'_> {
 
     // The truth of a at the valuation w.
     pub(super) fn truth(&self, a: u16, w: u32) -> bool
-        requires { a < length (listed self.now) + 2 }
         ensures { result ≡ value (listed self.now) a w }
     {
         let mut at = a;

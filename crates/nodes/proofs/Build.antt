@@ -10,7 +10,7 @@ use Rattle.nodes.specs.Growth.{Parts, Built, Short, Splits, choose}
 use Rattle.nodes.proofs.Extend.{ext_refl, ext_trans, value_ext, push_ext, node_last, push_sound}
 use Rattle.nodes.proofs.Fixings.{fixings_like, split_in, self_in, halves}
 use Rattle.nodes.proofs.Pigeon.{in_like}
-use Rattle.nodes.proofs.Values.{value_node}
+use Rattle.nodes.proofs.Values.{top_node, value_node}
 
 module _ (n : ℕ) where
   parts_none : (xs : List Node) (v : ℕ) (f : Fn) → Parts n xs xs v f
@@ -65,7 +65,7 @@ module _ (n : ℕ) where
     pub join_found : (k : ℕ) → k < length xs → node xs k ≡ new → Built n xs xs v (choose v either) (k + 2)
     join_found k lt e = let q : suc (suc k) ≡ k + 2 = omega arith in
         subst (Built n xs xs v (choose v either)) q
-        (built_there xs v _ (suc (suc k)) (omega arith) (omega (arith, ap (λ (x : Node). x.variable) e))
+        (built_there xs v _ (suc (suc k)) (omega arith) (omega (arith, top_node n xs k lt, ap (λ (x : Node). x.variable) e))
         (λ w _. value_node n xs s k w lt ∙ ap (λ (x : Node). value xs (child x (bit x.variable w)) w) e))
 
     module _ (differ : l ≡ h → ⊥) (absent : (k : ℕ) → k < length xs → node xs k ≡ new → ⊥) where
@@ -94,7 +94,7 @@ module _ (n : ℕ) where
           subst (Built n xs more v (choose v either)) q (record {
             parts = more_parts;
             held = omega (arith, length_push xs new);
-            under = omega (arith, ap (λ (x : Node). x.variable) (node_last xs new));
+            under = omega (arith, top_node n more (length xs) (omega (arith, length_push xs new)), ap (λ (x : Node). x.variable) (node_last xs new));
             means = more_means;
           })
 

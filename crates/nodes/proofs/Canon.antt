@@ -7,7 +7,7 @@ use Rattle.store.proofs.Bit.{fixed_lt}
 use Rattle.store.proofs.Same.{same_sym}
 use Rattle.nodes.specs.declared.Node.{Node}
 use Rattle.nodes.specs.Graph.{node, child, value, top, Fit, Sound}
-use Rattle.nodes.proofs.Values.{value_free, value_child}
+use Rattle.nodes.proofs.Values.{top_node, value_free, value_child}
 
 node_path : (x y : Node) → x.variable ≡ y.variable → x.low ≡ y.low → x.high ≡ y.high → x ≡ y
 node_path x y p q r = λ i. record { variable = p i; low = q i; high = r i }
@@ -57,8 +57,8 @@ module _ (n : ℕ) (xs : List Node) (s : Sound n xs) where
             (λ w l. sym (value_child n xs s j w t jl) ∙ e _ (fixed_lt n _ t w fj.below l) ∙ rw v (value_child n xs s k w t kl)) in
             ap (λ i. suc (suc i)) (s.once j k jl kl (node_path _ _ v (children false) (children true)))
         | inr d ↦ elim d [
-          | inl u ↦ absurd (apart j b jl q u (λ c l y. canon_in m c b (omega arith) (omega arith) q y) e)
-          | inr u ↦ absurd (apart k a kl p u (λ c l y. canon_in m c a (omega arith) (omega arith) p y) (same_sym n _ _ e))
+          | inl u ↦ absurd (apart j b jl q (omega (arith, u, top_node n xs k kl)) (λ c l y. canon_in m c b (omega arith) (omega arith) q y) e)
+          | inr u ↦ absurd (apart k a kl p (omega (arith, u, top_node n xs j jl)) (λ c l y. canon_in m c a (omega arith) (omega arith) p y) (same_sym n _ _ e))
         ]
       ]
 

@@ -6,6 +6,7 @@ use Rattle.store.specs.Fun.{bit}
 use Rattle.nodes.specs.declared.Node.{Node}
 use Rattle.nodes.specs.Graph.{node, blank, child, truth, value, top, Fit, Sound}
 use Rattle.nodes.specs.Growth.{Ext}
+use Rattle.nodes.proofs.Values.{top_node}
 
 pub ext_refl : (xs : List Node) → Ext xs xs
 ext_refl xs = record { longer = omega arith; kept = λ k h. refl }
@@ -19,7 +20,8 @@ ext_trans xs ys zs d e = record {
 pub top_ext : (n : ℕ) (xs ys : List Node) → Ext xs ys → (a : ℕ) → a < length xs + 2 → top n ys a ≡ top n xs a
 top_ext n xs ys e zero h = refl
 top_ext n xs ys e (suc zero) h = refl
-top_ext n xs ys e (suc (suc k)) h = let l : k < length xs = omega arith in ap (λ x. x.variable) (e.kept k l)
+top_ext n xs ys e (suc (suc k)) h = let l : k < length xs = omega arith in
+    top_node n ys k (omega (arith, e.longer)) ∙ ap (λ x. x.variable) (e.kept k l) ∙ sym (top_node n xs k l)
 
 module _ (n : ℕ) (xs ys : List Node) (s : Sound n xs) (e : Ext xs ys) where
   truth_ext : (m a w : ℕ) → a < length xs + 2 → truth m ys a w ≡ truth m xs a w

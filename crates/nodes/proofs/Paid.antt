@@ -10,6 +10,7 @@ use Rattle.nodes.specs.declared.Node.{Node}
 use Rattle.nodes.specs.Graph.{node, child, value, top, Sound}
 use Rattle.nodes.specs.Price.{fixings, distinct, constant, wanted, cost}
 use Rattle.nodes.specs.Growth.{In, Ext, Halved}
+use Rattle.nodes.proofs.Values.{top_node}
 use Rattle.nodes.proofs.Canon.{canon}
 use Rattle.nodes.proofs.Extend.{value_ext, ext_refl}
 use Rattle.nodes.proofs.Fixings.{fix_same, self_in}
@@ -59,11 +60,11 @@ module _ (n : ℕ) (ys : List Node) (s : Sound n ys) where
 
   -- a number with its first variable fixed is a number
   fixed_number : (b i : ℕ) (t : Bool) → i < n → b < length ys + 2 → i ≤ top n ys b → (c : ℕ) × Halved n ys b i t c
-  fixed_number zero i t h l u = (0, halved_self n ys s 0 i t l h)
-  fixed_number (suc zero) i t h l u = (1, halved_self n ys s 1 i t l h)
+  fixed_number zero i t h l u = (0, halved_self n ys s 0 i t h)
+  fixed_number (suc zero) i t h l u = (1, halved_self n ys s 1 i t h)
   fixed_number (suc (suc k)) i t h l u = ⊎_elim
-      (λ lt. (suc (suc k), halved_self n ys s (suc (suc k)) i t l lt))
-      (λ ge. let u' : i ≤ (node ys k).variable = u in
+      (λ lt. (suc (suc k), halved_self n ys s (suc (suc k)) i t (omega (arith, lt, top_node n ys k (omega arith)))))
+      (λ ge. let u' : i ≤ (node ys k).variable = omega (arith, u, top_node n ys k (omega arith)) in
       let q : i ≡ (node ys k).variable = omega arith in
       (child (node ys k) t, subst (λ (j : ℕ). Halved n ys (suc (suc k)) j t (child (node ys k) t)) (sym q) (halved_child n ys s k t (omega arith))))
       (cases_lt i (node ys k).variable)
@@ -74,7 +75,7 @@ module _ (n : ℕ) (ys : List Node) (s : Sound n ys) where
   closed (suc m) i b f h l u e =
       let side : (t : Bool) → All (Held n ys) (fixings m (suc i) (fix i t f)) = λ t.
       let c = fixed_number b i t (omega arith) l u in
-      closed m (suc i) c.0 (fix i t f) (omega arith) c.1.held c.1.under (same_trans n _ _ _ (same_sym n _ _ c.1.means) (fix_same n i t (value ys b) f (omega arith) e)) in
+      closed m (suc i) c.0 (fix i t f) (omega arith) (c.1.held l) c.1.under (same_trans n _ _ _ (same_sym n _ _ c.1.means) (fix_same n i t (value ys b) f (omega arith) e)) in
       ((b, l, e), All-append (Held n ys) (fixings m (suc i) (fix i false f)) (fixings m (suc i) (fix i true f)) (side false) (side true))
 
   -- a number from 2 on is no constant

@@ -1,11 +1,11 @@
 -- A number that is no constant, and its node.
-use Rattle.std.proofs.Common.{◌≡◌, ℕ, suc, ◌<◌, Bool, List, length, refl, arith}
+use Rattle.std.proofs.Common.{◌≡◌, ℕ, suc, ◌<◌, Bool, List, length, arith}
 use Rattle.store.specs.Fun.{bit}
 use Rattle.nodes.specs.declared.Node.{Node}
 use Rattle.nodes.specs.Graph.{node, child, value, top, Sound}
 use Rattle.nodes.specs.Growth.{Halved}
 use Rattle.nodes.proofs.Halving.{halved_child}
-use Rattle.nodes.proofs.Values.{value_node}
+use Rattle.nodes.proofs.Values.{top_node, value_node}
 
 -- x is the node of number a
 pub record Reads (n : ℕ) (xs : List Node) (a : ℕ) (x : Node) : Type 0 where
@@ -19,7 +19,7 @@ pub reads : (n : ℕ) (xs : List Node) → Sound n xs → (k : ℕ) → k < leng
 reads n xs s k h =
     let f = s.fit k h in
     record {
-      variable = refl;
+      variable = top_node n xs k h;
       below = f.below;
       less = λ t. let l = f.earlier t in omega arith;
       picks = λ w. value_node n xs s k w h;

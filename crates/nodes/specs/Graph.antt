@@ -1,5 +1,6 @@
 -- Reduced ordered diagrams as lists of nodes. Number 0 is false, 1 true, and k + 2 the node at place k.
-use Rattle.std.specs.Prelude.{◌≡◌, ℕ, zero, suc, ◌+◌, ◌<◌, Bool, true, false, cond, List, length, slice_index_or}
+use Rattle.std.specs.Prelude.{◌≡◌, ℕ, zero, suc, ◌+◌, ◌<◌, Bool, true, false, cond, List, length, Some, None, Option, slice_index_or}
+use Rattle.std.specs.List.{slice_get}
 use Rattle.nodes.specs.declared.Node.{Node}
 use Rattle.store.specs.Fun.{Fn, bit}
 
@@ -24,11 +25,20 @@ truth (suc m) xs (suc (suc k)) w = truth m xs (child (node xs k) (bit (node xs k
 abbrev pub value : List Node → ℕ → Fn
 value xs a w = truth a xs a w
 
--- the variable on top of number a, and n for a constant
+-- the node of number a, and none for a constant and for a number that is not held
+abbrev pub node_under : List Node → ℕ → Option Node
+node_under xs zero = None
+node_under xs (suc zero) = None
+node_under xs (suc (suc k)) = slice_get xs k
+
+-- the variable that a node decides by, and n without one
+abbrev pub variable_or : ℕ → Option Node → ℕ
+variable_or n None = n
+variable_or n (Some x) = x.variable
+
+-- the variable on top of number a, and n where it has no node
 abbrev pub top : ℕ → List Node → ℕ → ℕ
-top n xs zero = n
-top n xs (suc zero) = n
-top n xs (suc (suc k)) = (node xs k).variable
+top n xs a = variable_or n (node_under xs a)
 
 -- a node that may stand at place k: its variable is one of n, its children are earlier, lie below it and differ
 pub record Fit (n : ℕ) (xs : List Node) (k : ℕ) (x : Node) : Type 0 where

@@ -41,9 +41,9 @@ pub record Splits (n v : ℕ) (f : Fn) (h : Bool → Fn) : Type 0 where
   pub half : (t : Bool) → Same n (fix v t f) (h t)
   pub free : (j : ℕ) (t : Bool) → j < v → Same n (fix j t f) f
 
--- number r is number a with variable v, which a does not have above its top, fixed to t
+-- number r is number a with variable v, which a does not have above its top, fixed to t; it is held if a is
 pub record Halved (n : ℕ) (xs : List Node) (a v : ℕ) (t : Bool) (r : ℕ) : Type 0 where
-  pub held : r < length xs + 2
+  pub held : a < length xs + 2 → r < length xs + 2
   pub under : v < top n xs r
   pub lower : top n xs a ≤ top n xs r
   pub means : Same n (fix v t (value xs a)) (value xs r)

@@ -3,3 +3,4 @@ pub mod Same
 pub mod Making
 pub mod Word
 pub mod Replies
+pub mod Fits

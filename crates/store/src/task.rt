@@ -1,5 +1,5 @@
 // The functions that a making call asks for, and when a call is refused whatever the room.
-ghost use Rattle.std.specs.Prelude.{◌≡◌, ◌^◌, nat_lt};
+ghost use Rattle.std.specs.Prelude.{◌≡◌, ◌+◌, ◌^◌, nat_lt};
 ghost use Rattle.store.specs.Tasks.{names, ranges, allowed};
 
 use super::refusal::Refusal;
@@ -21,11 +21,11 @@ pub enum Task {
 }
 
 impl Task {
-    // What a store of so many variables that holds the numbers below `held` refuses: NUMBER is tested first, then VARIABLE.
-    pub fn check(self, held: usize, variables: u8) -> Result<(), Refusal>
-        ensures { result ≡ allowed (names (λ a. nat_lt a held) self) (ranges variables self) }
+    // What a store of so many variables that has made so many functions refuses: NUMBER is tested first, then VARIABLE.
+    pub fn check(self, made: usize, variables: u8) -> Result<(), Refusal>
+        ensures { result ≡ allowed (names (λ a. nat_lt a (made + 2)) self) (ranges variables self) }
     {
-        let holds = |a: u16| (a as usize) < held;
+        let holds = |a: u16| holds(a, made);
         let (operands, within) = match self {
             Task::Variable(i) => (true, i < variables),
             Task::Not(a) => (holds(a), true),
@@ -37,10 +37,17 @@ impl Task {
 }
 
 // The same for the question of number a at the valuation w.
-pub fn check_value(a: u16, w: u32, held: usize, variables: u8) -> Result<(), Refusal>
-    ensures { result ≡ allowed (nat_lt a held) (nat_lt w (2 ^ variables)) }
+pub fn check_value(a: u16, w: u32, made: usize, variables: u8) -> Result<(), Refusal>
+    ensures { result ≡ allowed (nat_lt a (made + 2)) (nat_lt w (2 ^ variables)) }
 {
-    refused((a as usize) < held, variables >= 32 || w < 1 << variables)
+    refused(holds(a, made), variables >= 32 || w < 1 << variables)
+}
+
+// Whether number a is held: the constants have the first two numbers, and what was made has the next ones.
+fn holds(a: u16, made: usize) -> bool
+    ensures { result ≡ nat_lt a (made + 2) }
+{
+    a < 2 || usize::from(a) - 2 < made
 }
 
 // By whether the numbers are held, and whether the variable or the valuation is in range.

@@ -1,7 +1,6 @@
 -- What a table store shows is lawful.
-use Rattle.std.proofs.Common.{◌≡◌, ℕ, ◌+◌, ◌≤◌, Bool, true, false, cond, leb, List, [], length, is_err, refl, ap, ⊎_elim, arith}
-use Rattle.std.proofs.lemmas.Bool.{cases_Bool, cases_order, cond-true, cond-false, cond_both, lt-ltb, ltb-true, leb-true, and_parts, false≢true}
-use Rattle.store.specs.Fitting.{fitting}
+use Rattle.std.proofs.Common.{◌≡◌, ℕ, ◌+◌, ◌≤◌, true, false, cond, List, [], length, refl, ap, ⊎_elim, arith}
+use Rattle.std.proofs.lemmas.Bool.{cases_Bool, cases_order, cond-true, cond-false, cond_both, lt-ltb, ltb-true}
 use Rattle.store.specs.Fun.{Fn}
 use Rattle.store.specs.Meaning.{Lawful, Fresh, holds, price}
 use Rattle.store.proofs.Same.{holds_like, same_refl, same_sym}
@@ -10,7 +9,7 @@ use Rattle.records.proofs.Contents.{entries_fit}
 use Rattle.table.specs.declared.Table.{Table}
 use Rattle.table.specs.Store.{shows}
 use Rattle.table.specs.declared.truths.Truths.{Truths}
-use Rattle.table.specs.Shows.{shown, sound, suits}
+use Rattle.table.specs.Shows.{shown, sound}
 use Rattle.table.proofs.Sound.{sound_tells, sound_empty}
 
 module _ (n : ℕ) (xs : List Truths) (capacity : ℕ) where
@@ -47,16 +46,6 @@ fresh_shown n capacity = record { held = λ a. refl; used = refl }
 
 pub lawful_empty : (n capacity : ℕ) → n ≤ 10 → capacity ≤ 65534 → Lawful (shown n [] capacity)
 lawful_empty n capacity few small = lawful_shown n [] capacity few (omega arith) small (sound_empty n)
-
-pub suits_tells : (n records : ℕ) → suits n records ≡ true → (1 ≤ n) × (n ≤ 10) × (records ≤ 65534)
-suits_tells n records e =
-    let p = and_parts _ (leb records 65534) e in
-    let q = and_parts (leb 1 n) (leb n 10) p.0 in
-    (leb-true 1 n q.0, leb-true n 10 q.1, leb-true records 65534 p.1)
-
-pub fit_tells : (b : Bool) → false ≡ is_err (fitting b) → b ≡ true
-fit_tells true e = refl
-fit_tells false e = absurd (false≢true e)
 
 pub lawful_table : (d : Table) → Lawful (shows d)
 lawful_table d = lawful_shown d.n (entries d.list) (room d.list) d.few (entries_fit d.list) d.small d.apart

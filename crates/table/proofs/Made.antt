@@ -1,9 +1,10 @@
 -- A function that is made over the tables xs, by what its look-up answers.
-use Rattle.std.proofs.Common.{◌≡◌, ℕ, zero, suc, ◌+◌, ◌<◌, ◌≤◌, Bool, true, false, List, [], ◌∷◌, ◌++◌, length, get_or, Some, None, Option, Ok, Err, Result, sym, refl, ap, ◌∙◌, subst, ⊎_elim, arith}
+use Rattle.std.proofs.Common.{◌≡◌, ℕ, zero, suc, ◌+◌, ◌<◌, ◌≤◌, Bool, true, false, List, [], ◌∷◌, ◌++◌, length, get_or, Some, None, Option, Ok, Err, Result, MatchResult, IsErrAnd, sym, refl, ap, ◌∙◌, subst, ⊎_elim, arith}
 use mir.Val.{bool_byte}
 use Rattle.std.specs.List.{slice_get}
 use Rattle.std.proofs.ByRecursion.{All-get_or}
 use Rattle.std.proofs.lemmas.List.{length_push}
+use Rattle.std.proofs.lemmas.Result.{err_from_is_err_and}
 use Rattle.std.proofs.lemmas.Option.{slice_get-get_or, slice_get_within}
 use Rattle.std.proofs.lemmas.Bool.{lt-ltb, ltb-true, not-true, both_ways}
 use Rattle.std.proofs.lemmas.Bool.Decides.{Decides-not}
@@ -33,9 +34,19 @@ abbrev pub reply : Result ℕ Full → Result ℕ Refusal
 reply (Ok k) = Ok (k + 2)
 reply (Err _) = Err (Room 0)
 
-abbrev pub Narrow : Result ℕ Full → Type 0
-Narrow (Ok k) = k + 2 < 65536
+abbrev pub Narrow : Result ℕ Refusal → Type 0
+Narrow (Ok a) = a < 65536
 Narrow (Err _) = Unit {0}
+
+-- the reply by what a `map_err` of the look-up answers
+abbrev pub numbered : Result ℕ Refusal → Result ℕ Refusal
+numbered (Ok k) = Ok (k + 2)
+numbered (Err e) = Err e
+
+pub replied : {P : Full → Refusal → Type 0} → (p : Result ℕ Full) (q : Result ℕ Refusal) → MatchResult p (λ k. q ≡ Ok k) (λ s. IsErrAnd q (P s))
+    → ((s : Full) (e : Refusal) → P s e → e ≡ Room 0) → reply p ≡ numbered q
+replied (Ok k) q h is = ap numbered (sym h)
+replied (Err s) q h is = let e = err_from_is_err_and q h in ap Err (sym (is s e.0 e.2)) ∙ ap numbered (sym e.1)
 
 -- the constant that a function is, by its table
 pub constant_of : (n : ℕ) (f : Fn) (t : Truths) (r : Option Bool) → n ≤ 10 → t ≡ table n f → Constant n (truth t) r → Constant n f r
@@ -87,7 +98,7 @@ module _ (n : ℕ) (xs : List Truths) (capacity : ℕ) (few : n ≤ 10) (fits : 
         h.1
     sound_placed (Err _) ys h = subst (λ (zs : List Truths). sound n zs ≡ true) (sym h.2) s
 
-    narrow_placed : (p : Result ℕ Full) (ys : List Truths) → LookedUp xs capacity (table n f) p ys → Narrow p
+    narrow_placed : (p : Result ℕ Full) (ys : List Truths) → LookedUp xs capacity (table n f) p ys → Narrow (reply p)
     narrow_placed (Ok k) ys h = ⊎_elim (λ found. omega (arith, slice_get_within xs k _ found.0)) (λ added. omega (arith, added.0, added.1)) h.1
     narrow_placed (Err _) ys h = tt
 
@@ -138,7 +149,7 @@ module _ (d : Table) (m : Records Truths) (f : Fn) (x : Truths) (is : x ≡ tabl
   pub sound_after : sound d.n (entries m) ≡ true
   sound_after = sound_placed d.n (entries d.list) (room d.list) d.few (entries_fit d.list) d.small d.apart f mixed p (entries m) looked
 
-  pub narrow_after : Narrow p
+  pub narrow_after : Narrow (reply p)
   narrow_after = narrow_placed d.n (entries d.list) (room d.list) d.few (entries_fit d.list) d.small d.apart f mixed p (entries m) looked
 
   pub answers_after : Answers (shows d) (shown d.n (entries m) (room m)) f (reply p)

@@ -13,7 +13,7 @@ pub mod truths;
 use records::List;
 use store::Store;
 use store::figures::Figures;
-use store::fitting::fit;
+use store::fitting::{fit, fitted};
 use store::refusal::{Refusal, Unfit};
 use store::task::{Task, check_value};
 use truths::Truths;
@@ -29,11 +29,15 @@ pub struct Table<'a> {
     ghost apart: { sound n (entries list) ≡ true },
 }
 
+// The most variables of a table store.
+const MOST: u8 = 10;
+
 // Whether a table store of n variables can be made in the records.
+// The two stay apart: here the records are only looked at, and `new` takes them.
 pub fn check(n: u8, records: &[Truths]) -> Result<(), Unfit>
     ensures { result ≡ fitting (suits n (length records.now)) }
 {
-    fit(n, 10, records)
+    fit(n, MOST, records)
 }
 
 impl<'a> Table<'a> {
@@ -43,12 +47,7 @@ impl<'a> Table<'a> {
         ensures fresh { Fresh (showing result.n result.list) }
         ensures lawful { Lawful (showing result.n result.list) }
     {
-        if check(n, records).is_err() {
-            return Table {
-                n: 1,
-                list: List::new(&mut []),
-            };
-        }
+        let (n, records) = fitted(n, MOST, records);
         Table {
             n,
             list: List::new(records),
@@ -60,13 +59,13 @@ impl Store for Table<'_> {
     ghost shows = { λ d. showing d.n d.list };
 
     fn answer(&mut self, task: Task) -> Result<u16, Refusal> {
-        task.check(self.held(), self.n)?;
+        task.check(self.list.len(), self.n)?;
         self.make(task)
     }
 
-    // Each make says this: a trait that said it once would show the truth of a number that may not be held.
+    // Each make says this: to say it once, the trait would ask three more methods of every store, of a layer too.
     fn value(&mut self, a: u16, w: u32) -> Result<bool, Refusal> {
-        check_value(a, w, self.held(), self.n)?;
+        check_value(a, w, self.list.len(), self.n)?;
         Ok(self.truth(a, w))
     }
 

@@ -15,13 +15,6 @@ use store::refusal::Refusal;
 use store::task::{Op, Task};
 
 impl Table<'_> {
-    // How many numbers are held: those below.
-    pub(super) fn held(&self) -> usize
-        ensures { result ≡ length (entries self.now.list) + 2 }
-    {
-        self.list.len() + 2
-    }
-
     // The truth of the function under a number at w.
     pub(super) fn truth(&self, a: u16, w: u32) -> bool
         ensures { result ≡ value (entries self.now.list) a w }
@@ -29,7 +22,7 @@ impl Table<'_> {
         if a < 2 {
             return a == 1;
         }
-        self.list.get(a as usize - 2).is_some_and(|t| t.at(w))
+        self.list.get(usize::from(a) - 2).is_some_and(|t| t.at(w))
     }
 
     // The table of what the task asks for.
@@ -59,11 +52,9 @@ impl Table<'_> {
     {
         let table = self.table(task);
         if let Some(t) = table.constant(self.n) {
-            return Ok(t as u16);
+            return Ok(u16::from(t));
         }
-        match self.list.find_or_add(table) {
-            Ok(k) => Ok(k as u16 + 2),
-            Err(Full) => Err(Refusal::Room(0)),
-        }
+        let place = self.list.find_or_add(table).map_err(|_| Refusal::Room(0))?;
+        Ok(place as u16 + 2)
     }
 }

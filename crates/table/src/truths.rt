@@ -44,7 +44,7 @@ impl Truths {
         ensures { result ≡ truth self.now w }
     {
         let byte = self.bytes.get((w / 8) as usize).copied().unwrap_or(0);
-        bit(byte as u32, (w % 8) as u8)
+        bit(u32::from(byte), (w % 8) as u8)
     }
 
     // The constant that it is as a function of n variables, if it is one.
@@ -66,7 +66,7 @@ fn byte<F: Fn(u32) -> bool>(f: &F, j: usize) -> u8
     let mut byte = 0;
     // A `for`: of a fold, `fold-requires-clause-callable` stayed open, that its closure may be called at each turn.
     for k in (0..8).rev() {
-        byte = 2 * byte + f(8 * j as u32 + k) as u8;
+        byte = 2 * byte + u8::from(f(8 * j as u32 + k));
     }
     byte
 }

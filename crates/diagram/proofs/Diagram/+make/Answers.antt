@@ -1,7 +1,8 @@
-use Rattle.std.proofs.Common.{ℕ, Ok}
+use Rattle.std.proofs.Common.{ℕ, Ok, arith}
 use Rattle.std.proofs.lemmas.Result.{err_from_is_err_and}
 use Rattle.diagram.proofs.Recalling.{recalled, remembered}
 use Rattle.diagram.proofs.Twofold.{Halves, low_stops, high_stops, join_under, joined, join_stops}
+use Rattle.diagram.proofs.Tasks.{still_posed, still_peak}
 use Rattle.diagram.proofs.Diagram.+make.Goals as goal
 use Rattle.diagram.proofs.Diagram.+make.Goals.{After-half-on}
 
@@ -13,6 +14,16 @@ halves t c = record {
   low = c.half-off.ensures;
   high = c.half-on.ensures;
 }
+
+pub make-requires-2 : goal.make-requires-2
+make-requires-2 t c =
+    let d = c.args.self.now in
+    let e = c.make.new.self in
+    let m = c.in_ok-low.ensures in
+    let x = m.outcome.parts.ext in
+    let on = c.half-on.ensures in
+    let still = still_peak d e m.vars x c.half-on.result on.posed in
+    (omega (arith, m.vars, still, on.under, c.peak-variable.ensures, c.in_default.ensures.0, c.decreases), still_posed d e m.vars x c.half-on.result on.posed)
 
 pub returns-in_err-low : goal.returns-in_err-low
 returns-in_err-low t c =

@@ -9,7 +9,7 @@ pub loop-k-preserved : goal.loop-k-preserved
 loop-k-preserved g c =
     let e : 8 - (c.loop-k.k - 1) ≡ suc (8 - c.loop-k.k) = omega (arith, c.loop-k-test.true, c.loop-k.auto.k) in
     record {
-      low = rw e (omega (arith, pow-suc 2 (8 - c.loop-k.k), bool_low c.f.result, c.loop-k.invariant.low));
-      made = λ f h. packed_more c.args.j c.loop-k.k f c.loop-k.byte c.f.result c.loop-k-test.true c.loop-k.auto.k (c.loop-k.invariant.made f h)
-          (h (8 * c.args.j + (c.loop-k.k - 1)) c.f.result (omega arith) c.f.ensures);
+      low = rw e (omega (arith, pow-suc 2 (8 - c.loop-k.k), bool_low c.f.result, c.from.ensures, c.loop-k.invariant.low));
+      made = λ f h. rw c.from.ensures (packed_more c.args.j c.loop-k.k f c.loop-k.byte c.f.result c.loop-k-test.true c.loop-k.auto.k (c.loop-k.invariant.made f h)
+          (h (8 * c.args.j + (c.loop-k.k - 1)) c.f.result (omega arith) c.f.ensures));
     }
