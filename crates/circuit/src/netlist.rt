@@ -69,7 +69,10 @@ impl Netlist {
     fn gate_line(&self, g: u16) -> usize
         ensures { result ≡ gate_line self.now g }
     {
-        1 + self.registers as usize + self.inputs as usize + g as usize
+        let Netlist {
+            registers, inputs, ..
+        } = self;
+        1 + usize::from(*registers) + usize::from(*inputs) + usize::from(g)
     }
 
     // Refuses the first gate that names its own line or a later one.
@@ -92,7 +95,7 @@ impl Netlist {
     {
         let mut marks = ArrayVec::<bool, MOST_LINES>::new();
         for line in 0..self.gate_line(0) {
-            marks.push(line > self.registers as usize);
+            marks.push(line > usize::from(self.registers));
         }
         for gate in self.gates.as_slice() {
             let touches = gate.names_marked(marks.as_slice());
