@@ -40,6 +40,7 @@ impl Netlist {
     {
         let count = sizes.gates;
         let mut gates = ArrayVec::new();
+        // Pushes: of an `extend` by a `map`, `search` found no proof that the closure gives `gate_at`.
         for g in 0..count {
             gates.push(Gate {
                 left: number_at(file, 3 + g),
@@ -70,7 +71,9 @@ impl Netlist {
         ensures { result ≡ gate_line self.now g }
     {
         let Netlist {
-            registers, inputs, ..
+            registers,
+            inputs,
+            ..
         } = self;
         1 + usize::from(*registers) + usize::from(*inputs) + usize::from(g)
     }
@@ -89,11 +92,11 @@ impl Netlist {
 
     // Whether Init, the last gate, touches an input. Each line in turn is marked if it does.
     fn init_touches(&self) -> bool
-        requires ranged { InRange (sizes self.now) }
-        requires wired { (g : ℕ) → g < length self.now.gates → Wired self.now g }
+        requires { InRange (sizes self.now) }
         ensures { result ≡ touching self.now (init_line self.now) }
     {
         let mut marks = ArrayVec::<bool, MOST_LINES>::new();
+        // Pushes: `extend` gives a Result to unwrap, and the mark of a gate is read from those before it.
         for line in 0..self.gate_line(0) {
             marks.push(line > usize::from(self.registers));
         }
