@@ -2,12 +2,13 @@
 ghost use Rattle.std.specs.Prelude.{◌≡◌, ◌≤◌, length};
 ghost use Rattle.claim.specs.Grammar.{Tree, post};
 
+use crate::LONGEST;
 use crate::code::Code;
 use arrayvec::ArrayVec;
 
 #[derive(Drop)]
 pub struct Codes {
-    pub(crate) list: ArrayVec<Code, 512>,
+    pub(crate) list: ArrayVec<Code, LONGEST>,
     ghost within: { length list.items ≤ 512 },
     ghost made: { ∥ ((t : Tree) × (list.items ≡ post t)) ∥₁ },
 }

@@ -8,7 +8,7 @@ ghost use Rattle.claim.specs.Seen.{kind_of, class_of, Lexed};
 use crate::code::*;
 
 #[derive(Clone, Copy)]
-pub enum Token<'a> {
+pub(crate) enum Token<'a> {
     Not,
     And,
     Or,
@@ -22,14 +22,14 @@ pub enum Token<'a> {
 
 // A token with its place, and the place after it.
 #[derive(Clone, Copy)]
-pub struct Lexeme<'a> {
-    pub token: Token<'a>,
-    pub place: usize,
-    pub end: usize,
+pub(crate) struct Lexeme<'a> {
+    pub(crate) token: Token<'a>,
+    pub(crate) place: usize,
+    pub(crate) end: usize,
 }
 
 // What a byte other than a space begins.
-pub enum Class<'a> {
+enum Class<'a> {
     Mark(Token<'a>),
     Letter(Sort),
 }
@@ -80,7 +80,7 @@ fn name(sort: Sort, digits: &[u8]) -> Token<'_>
 }
 
 // The first token at or after `at`.
-pub fn next_token(text: &[u8], at: usize) -> Lexeme<'_>
+pub(crate) fn next_token(text: &[u8], at: usize) -> Lexeme<'_>
     requires { at ≤ length text.now }
     ensures { Lexed text.now at result }
 {
