@@ -1,6 +1,6 @@
 // Cuts a claim's text into tokens.
-ghost use Rattle.std.specs.Prelude.{◌≡◌, ◌≤◌, length, ◌≢◌, ◌==◌};
-ghost use Rattle.std.specs.Char.{is_ascii_digit};
+ghost use Rattle.std.specs.Prelude.{◌≡◌, ℕ, ◌≤◌, Bool, length, ◌≢◌};
+ghost use Rattle.std.specs.Iterator.{ActsAsAt};
 ghost use Rattle.std.specs.List.{prefix_len};
 ghost use Rattle.claim.specs.Tokens.{class, digits, name_of};
 ghost use Rattle.claim.specs.Seen.{kind_of, class_of, Lexed};
@@ -53,20 +53,13 @@ fn class_of<'a>(byte: u8) -> Class<'a>
     }
 }
 
-// How many spaces the text begins with.
-fn count_spaces(text: &[u8]) -> usize
-    ensures count { result ≡ prefix_len (λ byte. byte == 32) text.now }
+// How many bytes at the front of the text pass a test.
+fn leading<F: FnMut(&&u8) -> bool>(text: &[u8], test: F) -> usize
+    requires { (state : F) (x : _) → F.pre state x }
+    ensures count { (passes : ℕ → Bool) → ActsAsAt F.FnMut test (λ byte. passes byte.now) → result ≡ prefix_len passes text.now }
     ensures within { result ≤ length text.now }
 {
-    text.iter().take_while(|byte| **byte == b' ').count()
-}
-
-// How many digits the text begins with.
-fn count_digits(text: &[u8]) -> usize
-    ensures count { result ≡ prefix_len is_ascii_digit text.now }
-    ensures within { result ≤ length text.now }
-{
-    text.iter().take_while(|byte| byte.is_ascii_digit()).count()
+    text.iter().take_while(test).count()
 }
 
 // The name that a letter begins with these digits.
@@ -84,7 +77,7 @@ pub(crate) fn next_token(text: &[u8], at: usize) -> Lexeme<'_>
     requires { at ≤ length text.now }
     ensures { Lexed text.now at result }
 {
-    let place = at + count_spaces(&text[at..]);
+    let place = at + leading(&text[at..], |byte| **byte == b' ');
     let Some(byte) = text.get(place) else {
         return Lexeme {
             token: Token::End,
@@ -99,7 +92,7 @@ pub(crate) fn next_token(text: &[u8], at: usize) -> Lexeme<'_>
             end: place + 1,
         },
         Class::Letter(sort) => {
-            let end = place + 1 + count_digits(&text[place + 1..]);
+            let end = place + 1 + leading(&text[place + 1..], |byte| byte.is_ascii_digit());
             Lexeme {
                 token: name(sort, &text[place + 1..end]),
                 place,
