@@ -54,12 +54,12 @@ fn class_of<'a>(byte: u8) -> Class<'a>
 }
 
 // How many bytes at the front of the text pass a test.
-fn leading<F: FnMut(&&u8) -> bool>(text: &[u8], test: F) -> usize
-    requires { (state : F) (x : _) → F.pre state x }
-    ensures count { (passes : ℕ → Bool) → ActsAsAt F.FnMut test (λ byte. passes byte.now) → result ≡ prefix_len passes text.now }
+fn leading<F: Fn(u8) -> bool>(text: &[u8], test: F) -> usize
+    requires { F.IsAlwaysCallable test }
+    ensures count { (passes : ℕ → Bool) → ((byte : ℕ) (r : Bool) → F.post test byte r → r ≡ passes byte) → result ≡ prefix_len passes text.now }
     ensures within { result ≤ length text.now }
 {
-    text.iter().take_while(test).count()
+    text.iter().take_while(|byte| test(**byte)).count()
 }
 
 // The name that a letter begins with these digits.
@@ -77,7 +77,7 @@ pub(crate) fn next_token(text: &[u8], at: usize) -> Lexeme<'_>
     requires { at ≤ length text.now }
     ensures { Lexed text.now at result }
 {
-    let place = at + leading(&text[at..], |byte| **byte == b' ');
+    let place = at + leading(&text[at..], |byte| byte == b' ');
     let Some(byte) = text.get(place) else {
         return Lexeme {
             token: Token::End,
