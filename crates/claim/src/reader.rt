@@ -2,7 +2,7 @@
 ghost use Rattle.std.specs.Prelude.{◌≡◌, ℕ, ◌+◌, ◌<◌, ◌≤◌, [], ◌∷◌, length, MatchOption, MatchResult, ◌≢◌};
 ghost use Rattle.claim.specs.declared.lexer.Token.TheVariants.{Close, End};
 ghost use Rattle.claim.specs.Tokens.{tok, rparen, name};
-ghost use Rattle.claim.specs.Seen.{kind_of, Placed};
+ghost use Rattle.claim.specs.Seen.{kind_of, Placed, Numeral};
 ghost use Rattle.claim.specs.Grammar.{claim, term, factor, value, code, limit};
 
 use crate::LONGEST;
@@ -11,6 +11,7 @@ use crate::fault::Fault;
 use crate::lexer::*;
 use arrayvec::ArrayVec;
 use circuit::sizes::Sizes;
+use std::str;
 
 const DEEPEST: usize = 16;
 
@@ -28,14 +29,10 @@ pub(crate) struct Reader<'a> {
 
 // The number that the digits write, if it is below `most`.
 fn number_below(digits: &[u8], most: u16) -> Option<u16>
+    requires { Numeral digits.now }
     ensures { MatchOption result (most ≤ value digits.now) (λ n. (n ≡ value digits.now) × (n < most)) }
 {
-    let mut n: u16 = 0;
-    for digit in digits {
-        n = n
-            .checked_mul(10)?
-            .checked_add(u16::from(digit.saturating_sub(b'0')))?;
-    }
+    let n = str::from_utf8(digits).ok()?.parse().ok()?;
     (n < most).then_some(n)
 }
 
