@@ -9,6 +9,7 @@ use arrayvec::ArrayVec;
 #[derive(Drop)]
 pub struct Codes {
     pub(crate) list: ArrayVec<Code, LONGEST>,
+    // For the callers: a lent list does not tell its capacity, and a clause of `codes` would say the same.
     ghost within: { length list.items ≤ 512 },
     ghost made: { ∥ ((t : Tree) × (list.items ≡ post t)) ∥₁ },
 }

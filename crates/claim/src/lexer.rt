@@ -38,7 +38,7 @@ fn class_of<'a>(byte: u8) -> Class<'a>
     requires { byte ≢ 32 }
     ensures { class_of result ≡ class byte }
 {
-    match byte as char {
+    match char::from(byte) {
         '!' => Class::Mark(Token::Not),
         '&' => Class::Mark(Token::And),
         '|' => Class::Mark(Token::Or),

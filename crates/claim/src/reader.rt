@@ -139,7 +139,8 @@ impl<'a> Reader<'a> {
         Ok(())
     }
 
-    // Two loops: one for both would have to switch on which rule of the grammar comes next.
+    // Two loops: of one that takes the inner reader, `joined-requires` stayed open, since in a cycle that reader is
+    // not always callable, but only further on; and one over a level would switch on which rule comes next.
     #[cycle(claim_factor_term)]
     pub(crate) fn claim(&mut self, depth: Depth) -> Result<(), Fault>
         ensures { MatchResult result (λ _. Taken claim depth.opened self.old self.new) (λ f. Stopped claim depth.opened self.old self.new f) }
