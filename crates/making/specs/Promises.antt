@@ -32,7 +32,7 @@ Composes s a x b r t = (p : Part) (l : ℕ) (f g : Fn) → Means s a f → Polar
 
 -- that for the variables first + 2i, for each of the pairs
 abbrev pub ComposesAll : Shown → ℕ → ℕ → List Polarities → Result ℕ Refusal → Shown → Type 0
-ComposesAll s a first bs r t = (p : Part) (l : ℕ) (x : ℕ → ℕ) (f : Fn) (g : ℕ → Fn) → ((i : ℕ) → first + 2 * i ≡ x i)
+ComposesAll s a first bs r t = (p : Part) (l : ℕ) (x : ℕ → ℕ) (f : Fn) (g : ℕ → Fn) → ((i : ℕ) → i < length bs → first + 2 * i ≡ x i)
     → Means s a f → Paired s bs g (length bs) → ((i : ℕ) → i < length bs → x i < s.vars)
     → Gives plain s t (composed_all_list p l x g f (length bs)) (composed_all x g f (length bs)) r
 

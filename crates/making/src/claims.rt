@@ -36,7 +36,7 @@ fn act_on<S: Store>(
     ensures acts { ActsOn (S.Store.shows store.old) (alone (netlist lines.now.circuit.now)) act lines.now.numbers.items stack.old.items result stack.new.items (S.Store.shows store.new) }
 {
     match act {
-        Act::Constant(value) => Ok(value as u16),
+        Act::Constant(value) => Ok(u16::from(value)),
         Act::Name(sort, i) => Ok(lines.named(sort, i)),
         Act::Not => {
             let a = pop(stack);
