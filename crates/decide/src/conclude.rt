@@ -5,7 +5,7 @@ ghost use Rattle.engine.specs.Keeping.{world};
 ghost use Rattle.decide.specs.Searches.{CountsInside, HandsOut, Decided, Concludes};
 
 use super::report::Report;
-use super::trace::Trace;
+use super::trace::{MOST_STEPS, Trace};
 use circuit::sizes_at;
 use engine::session::Session;
 use making::fault::Fault;
@@ -18,7 +18,7 @@ fn count_inside<S: Store>(session: &mut Session<S>, registers: u16) -> Result<u1
     ensures { CountsInside (world S.Store.shows session.old) registers result }
 {
     let mut count = 0;
-    // A `for`: `filter` takes no test that can be refused.
+    // A `for`: of a sum of results the library says nothing, and the closure of a `try_fold` needs a clause, that its sum fits.
     for q in 0..1 << registers {
         count += u16::from(session.inside(q)?);
     }
@@ -29,11 +29,11 @@ fn read_trace<S: Store>(session: &mut Session<S>, depth: u16) -> Result<Trace, F
     requires { depth ≤ 256 }
     ensures { HandsOut (world S.Store.shows session.old) depth result }
 {
-    // Two arrays, as the call takes them.
-    let mut states = [0; 257];
-    let mut inputs = [0; 257];
+    // Two arrays, since the call of a session fills two lent arrays.
+    let mut states = [0; MOST_STEPS];
+    let mut inputs = [0; MOST_STEPS];
     session.trace(&mut states, &mut inputs)?;
-    let count = depth as usize + 1;
+    let count = usize::from(depth) + 1;
     Ok(Trace::of(&states[..count], &inputs[..count]))
 }
 
