@@ -18,7 +18,8 @@ fn count_inside<S: Store>(session: &mut Session<S>, registers: u16) -> Result<u1
     ensures { CountsInside (world S.Store.shows session.old) registers result }
 {
     let mut count = 0;
-    // A `for`: of a sum of results the library says nothing, and the closure of a `try_fold` needs a clause, that its sum fits.
+    // A `for`: of a sum of results the library says nothing, and a `try_fold` needs a clause on its closure, that the sum fits,
+    // and then `try_fold-requires-clause-callable` stayed open.
     for q in 0..1 << registers {
         count += u16::from(session.inside(q)?);
     }
