@@ -5,8 +5,9 @@ ghost use Rattle.engine.specs.Keeping.{world};
 ghost use Rattle.decide.specs.Searches.{CountsInside, HandsOut, Decided, Concludes};
 
 use super::report::Report;
-use super::trace::{MOST_STEPS, Trace};
+use super::trace::Trace;
 use circuit::sizes_at;
+use engine::search::MOST_STEPS;
 use engine::session::Session;
 use making::fault::Fault;
 use store::Store;
@@ -30,7 +31,7 @@ fn read_trace<S: Store>(session: &mut Session<S>, depth: u16) -> Result<Trace, F
     requires { depth ≤ 256 }
     ensures { HandsOut (world S.Store.shows session.old) depth result }
 {
-    // Two arrays, since the call of a session fills two lent arrays.
+    // Two arrays, by the rule of the call: a session fills two that are lent.
     let mut states = [0; MOST_STEPS];
     let mut inputs = [0; MOST_STEPS];
     session.trace(&mut states, &mut inputs)?;

@@ -1,11 +1,8 @@
 ghost use Rattle.std.specs.Prelude.{◌≡◌, ◌-◌, ◌<◌, ◌≤◌, length, map};
 
 use arrayvec::ArrayVec;
-use engine::search::MOST_ADVANCES;
+use engine::search::MOST_STEPS;
 use engine::step::Step;
-
-// How many steps the longest trace has.
-pub const MOST_STEPS: usize = MOST_ADVANCES + 1;
 
 // A run by its steps, from step 0 on.
 #[derive(Drop)]
