@@ -6,7 +6,7 @@ use uses::verdict::Verdict;
 
 pub const MOST_ADVANCES: usize = 256;
 
-// The steps of a trace: one for each set.
+// The most steps of a trace, which has one for each set.
 pub const MOST_STEPS: usize = MOST_ADVANCES + 1;
 
 // A search: the numbers of its functions, of its last set and of the sets before it, from B_0 on, and the verdict there.

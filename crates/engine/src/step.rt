@@ -9,7 +9,7 @@ pub struct Step {
 }
 
 impl Step {
-    // For a function of the state alone, which is the same at any input.
+    // A step for what the state alone decides: any input would do.
     pub(crate) fn at(state: u16) -> Step
         ensures { result ≡ record { state = state; input = 0 } }
     {
