@@ -20,8 +20,8 @@ impl Circuit {
         ensures { result ≡ sizes (netlist self.now) }
     {
         Sizes {
-            registers: self.netlist.registers as u16,
-            inputs: self.netlist.inputs as u16,
+            registers: u16::from(self.netlist.registers),
+            inputs: u16::from(self.netlist.inputs),
             gates: self.gate_count(),
         }
     }

@@ -13,15 +13,17 @@ impl Gate {
     pub(crate) fn names_below(self, line: usize) -> bool
         ensures { result ≡ (nat_lt (self.left / 2) line && nat_lt (self.right / 2) line) }
     {
-        (self.left as usize / 2) < line && (self.right as usize / 2) < line
+        usize::from(self.left / 2) < line && usize::from(self.right / 2) < line
     }
 
     // Whether one of the literals names a line that is marked.
     pub(crate) fn names_marked(self, marks: &[bool]) -> bool
-        requires left { self.left / 2 < length marks.now }
-        requires right { self.right / 2 < length marks.now }
         ensures { result ≡ either (λ x. slice_index_or marks.now x false) self }
     {
-        marks[self.left as usize / 2] || marks[self.right as usize / 2]
+        let marked = |literal: u16| {
+            let line = usize::from(literal / 2);
+            marks.get(line).copied().unwrap_or(false)
+        };
+        marked(self.left) || marked(self.right)
     }
 }

@@ -19,20 +19,20 @@ use netlist::Netlist;
 use refusal::{Refusal, Size};
 use sizes::Sizes;
 
-const MOST_REGISTERS: u16 = 8;
+pub const MOST_REGISTERS: usize = 8;
 
-const MOST_INPUTS: u16 = 8;
+pub const MOST_INPUTS: usize = 8;
 
 const MOST_GATES: usize = 1024;
 
 // False, the registers, the inputs and the gates.
-pub const MOST_LINES: usize = 1 + MOST_REGISTERS as usize + MOST_INPUTS as usize + MOST_GATES;
+pub const MOST_LINES: usize = 1 + MOST_REGISTERS + MOST_INPUTS + MOST_GATES;
 
 // Number i of a file: two bytes, low byte first, and 0 past the end.
 pub fn number_at(file: &[u8], i: u16) -> u16
     ensures { result ≡ number_at file.now i }
 {
-    let at = 2 * i as usize;
+    let at = 2 * usize::from(i);
     let low = file.get(at).copied().unwrap_or(0);
     let high = file.get(at + 1).copied().unwrap_or(0);
     u16::from_le_bytes([low, high])
@@ -56,10 +56,10 @@ fn read_sizes(file: &[u8]) -> Result<Sizes, Refusal>
         return Err(Refusal::Length(file.len()));
     }
     let sizes = sizes_at(file);
-    if !(1..=MOST_REGISTERS).contains(&sizes.registers) {
+    if !(1..=MOST_REGISTERS as u16).contains(&sizes.registers) {
         return Err(Refusal::Size(Size::Registers));
     }
-    if sizes.inputs > MOST_INPUTS {
+    if sizes.inputs > MOST_INPUTS as u16 {
         return Err(Refusal::Size(Size::Inputs));
     }
     if !(sizes.registers + 1..=MOST_GATES as u16).contains(&sizes.gates) {
@@ -75,7 +75,7 @@ pub fn read(file: &[u8], width: u8) -> Result<Circuit, Refusal>
     ensures determined { IfOk result (λ c. Determined (netlist c)) }
 {
     let sizes = read_sizes(file)?;
-    if file.len() != 6 + 4 * sizes.gates as usize {
+    if file.len() != 6 + 4 * usize::from(sizes.gates) {
         return Err(Refusal::Length(file.len()));
     }
     let needed = (2 * sizes.registers + sizes.inputs) as u8;

@@ -40,6 +40,7 @@ impl Netlist {
     {
         let count = sizes.gates;
         let mut gates = ArrayVec::new();
+        // Pushes: of an `extend` by a `map`, `search` found no proof that the closure gives `gate_at`.
         for g in 0..count {
             gates.push(Gate {
                 left: number_at(file, 3 + g),
@@ -69,7 +70,12 @@ impl Netlist {
     fn gate_line(&self, g: u16) -> usize
         ensures { result ≡ gate_line self.now g }
     {
-        1 + self.registers as usize + self.inputs as usize + g as usize
+        let Netlist {
+            registers,
+            inputs,
+            ..
+        } = self;
+        1 + usize::from(*registers) + usize::from(*inputs) + usize::from(g)
     }
 
     // Refuses the first gate that names its own line or a later one.
@@ -86,13 +92,13 @@ impl Netlist {
 
     // Whether Init, the last gate, touches an input. Each line in turn is marked if it does.
     fn init_touches(&self) -> bool
-        requires ranged { InRange (sizes self.now) }
-        requires wired { (g : ℕ) → g < length self.now.gates → Wired self.now g }
+        requires { InRange (sizes self.now) }
         ensures { result ≡ touching self.now (init_line self.now) }
     {
         let mut marks = ArrayVec::<bool, MOST_LINES>::new();
+        // Pushes: `extend` gives a Result to unwrap, and the mark of a gate is read from those before it.
         for line in 0..self.gate_line(0) {
-            marks.push(line > self.registers as usize);
+            marks.push(line > usize::from(self.registers));
         }
         for gate in self.gates.as_slice() {
             let touches = gate.names_marked(marks.as_slice());

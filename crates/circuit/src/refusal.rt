@@ -25,7 +25,7 @@ pub enum Refusal {
 }
 
 impl Refusal {
-    // A method, since `as` takes no enum that holds values.
+    // Methods, and no `as`: the cases hold places.
     pub fn number(self) -> u8
         ensures { result ≡ number_of self }
     {
@@ -45,9 +45,8 @@ impl Refusal {
         match self {
             Refusal::Length(bytes) => bytes,
             Refusal::Size(size) => size as usize,
-            Refusal::Width(variables) => variables as usize,
-            Refusal::Wire(gate) => gate as usize,
-            Refusal::Start(gate) => gate as usize,
+            Refusal::Width(variables) => usize::from(variables),
+            Refusal::Wire(gate) | Refusal::Start(gate) => usize::from(gate),
         }
     }
 }

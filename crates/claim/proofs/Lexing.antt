@@ -2,16 +2,17 @@
 use Rattle.std.proofs.Common.{◌≡◌, ℕ, zero, suc, ◌+◌, ◌-◌, ◌<◌, ◌≤◌, ◌==◌, Bool, true, false, cond, List, [], ◌∷◌, length, get_or, take, drop, sym, refl, ap, ◌∙◌, add-zero, arith, length-drop, drop-drop, ◌≢◌}
 use Rattle.std.specs.List.{take_while, prefix_len}
 use Rattle.std.specs.Char.{is_ascii_digit}
+use Rattle.std.specs.Str.{all_ascii_digits}
 use Rattle.std.proofs.lemmas.List.Sums.{take_while-cons, prefix_len_stops, prefix_len-le-length}
 use Rattle.std.proofs.lemmas.List.Folds.{length-prefix_len}
 use Rattle.std.proofs.lemmas.List.{at_drop_more, at_drop_all, take_rest, get_or-drop}
-use Rattle.std.proofs.lemmas.Bool.{cond_below, cond_above}
+use Rattle.std.proofs.lemmas.Bool.{and_from, cond_below, cond_above}
 use Rattle.std.proofs.lemmas.Bool.Decides.{nat_tests}
 use Rattle.claim.specs.declared.code.Sort.{Sort}
 use Rattle.claim.specs.declared.lexer.Token.{Token}
 use Rattle.claim.specs.declared.lexer.Token.TheVariants.{End}
-use Rattle.claim.specs.Seen.{kind_of, Lexed}
-use Rattle.claim.specs.Tokens.{end, tok, Class, mark, letter, class, digit, digits, name_of, begun, more, tokens}
+use Rattle.claim.specs.Seen.{kind_of, Numeral, Lexed}
+use Rattle.claim.specs.Tokens.{name, end, tok, Class, mark, letter, class, digit, digits, name_of, begun, more, tokens}
 
 -- the digits at the front
 digits_front : (bs : List ℕ) → take_while is_ascii_digit bs ≡ digits bs
@@ -31,6 +32,27 @@ not_end : (s : Sort) (ds : List ℕ) → end ≡ name_of s ds → ⊥
 not_end s [] e = cc
 not_end s (d ∷ []) e = cc
 not_end s (d ∷ c ∷ ds) e = grind (arith, nat_tests)
+
+-- nor a name
+no_name : (b : ℕ) (s : Sort) (ds : List ℕ) → mark (name s ds) ≡ class b → ⊥
+no_name b s ds e = grind (arith, nat_tests)
+
+more_digits : (b : ℕ) (ds : List ℕ) (t : Bool) → digit b ≡ t → all_ascii_digits ds ≡ true → all_ascii_digits (cond t (b ∷ ds) []) ≡ true
+more_digits b ds true e a = and_from _ _ e a
+more_digits b ds false e a = refl
+
+all_digits : (bs : List ℕ) → all_ascii_digits (digits bs) ≡ true
+all_digits [] = refl
+all_digits (b ∷ bs) = more_digits b (digits bs) (digit b) refl (all_digits bs)
+
+numeral_of : (s u : Sort) (ds es : List ℕ) → all_ascii_digits ds ≡ true → name_of s ds ≡ name u es → Numeral es
+numeral_of s u [] es a e = absurd cc
+numeral_of s u (d ∷ []) es a e =
+    let same : d ∷ [] ≡ es = cc in
+    (omega (arith, ap length same), sym (ap all_ascii_digits same) ∙ a)
+numeral_of s u (d ∷ c ∷ ds) es a e =
+    let same : d ∷ c ∷ ds ≡ es = grind (arith, nat_tests) in
+    (omega (arith, ap length same), sym (ap all_ascii_digits same) ∙ a)
 
 -- the spaces at the front
 spaces : (bs : List ℕ) (q : ℕ) → tokens 0 q bs ≡ tokens 0 (q + prefix_len (λ b. b == 32) bs) (drop (prefix_len (λ b. b == 32) bs) bs)
@@ -61,15 +83,15 @@ module _ (bs : List ℕ) (at p : ℕ) (after : at ≤ p) (inside : p < length bs
   here : {c : Class} → c ≡ class (get_or bs p 0) → tokens 0 at (drop at bs) ≡ begun c p (digits (drop (p + 1) bs)) (tokens (more c (digits (drop (p + 1) bs))) (p + 1) (drop (p + 1) bs))
   here e = sofar ∙ at_drop_more (tokens 0 p) bs p 0 inside ∙ ap (λ c. begun c p (digits (drop (p + 1) bs)) (tokens (more c (digits (drop (p + 1) bs))) (p + 1) (drop (p + 1) bs))) (sym e)
 
-  lexed : (t : Token) (e : ℕ) → p < e → e ≤ length bs → (t ≡ End → ⊥) → tokens 0 at (drop at bs) ≡ tok p (kind_of t) ∷ tokens 0 e (drop e bs) → Lexed bs at (record { token = t; place = p; end = e })
-  lexed t e lo hi n f = record {
+  lexed : (t : Token) (e : ℕ) → p < e → e ≤ length bs → (t ≡ End → ⊥) → ((s : Sort) (ds : List ℕ) → kind_of t ≡ name s ds → Numeral ds) → tokens 0 at (drop at bs) ≡ tok p (kind_of t) ∷ tokens 0 e (drop e bs) → Lexed bs at (record { token = t; place = p; end = e })
+  lexed t e lo hi n m f = record {
     after = after;
-    placed = record { within = omega arith; inner = λ _. (lo, hi); last = λ i. absurd (n i) };
+    placed = record { within = omega arith; inner = λ _. (lo, hi); last = λ i. absurd (n i); numeral = m };
     first = f ∙ ap (λ xs. tok p (kind_of t) ∷ xs) (cond_below p (length bs) (tokens 0 e (drop e bs)) [] inside);
   }
 
   pub lexed_mark : (t : Token) → mark (kind_of t) ≡ class (get_or bs p 0) → Lexed bs at (record { token = t; place = p; end = p + 1 })
-  lexed_mark t e = lexed t (p + 1) (omega arith) (omega arith) (λ i. no_end (get_or bs p 0) (ap (λ t. mark (kind_of t)) (sym i) ∙ e)) (here e)
+  lexed_mark t e = lexed t (p + 1) (omega arith) (omega arith) (λ i. no_end (get_or bs p 0) (ap (λ t. mark (kind_of t)) (sym i) ∙ e)) (λ s ds i. absurd (no_name (get_or bs p 0) s ds (ap mark (sym i) ∙ e))) (here e)
 
   pub lexed_name : (t : Token) (s : Sort) (n : ℕ) → letter s ≡ class (get_or bs p 0) → n ≡ prefix_len is_ascii_digit (take (length bs - (p + 1)) (drop (p + 1) bs)) → kind_of t ≡ name_of s (take (p + 1 + n - (p + 1)) (drop (p + 1) bs)) → Lexed bs at (record { token = t; place = p; end = p + 1 + n })
   lexed_name t s n e count k =
@@ -80,11 +102,12 @@ module _ (bs : List ℕ) (at p : ℕ) (after : at ≤ p) (inside : p < length bs
       let len : length (digits xs) ≡ n = ap length (sym (digits_front xs)) ∙ length-prefix_len is_ascii_digit xs ∙ sym all in
       let short : n ≤ length xs = omega (arith, all, prefix_len-le-length is_ascii_digit xs) in
       lexed t (p + 1 + n) (omega arith) (omega (arith, short, length-drop (p + 1) bs)) (λ i. not_end s (take (p + 1 + n - (p + 1)) xs) (ap kind_of (sym i) ∙ k))
+      (λ u es i. numeral_of s u (take (p + 1 + n - (p + 1)) xs) es (sym (ap all_ascii_digits is) ∙ all_digits xs) (sym k ∙ i))
       (here e ∙ ap (λ m. tok p (name_of s (digits xs)) ∷ tokens m (p + 1) xs) len ∙ (λ i. tok p (name_of s (is i)) ∷ skip n (p + 1) xs short i) ∙ (λ i. tok p (sym k i) ∷ tokens 0 (p + 1 + n) (drop-drop n (p + 1) bs i)))
 
 pub lexed_end : (bs : List ℕ) (at p : ℕ) → at ≤ p → p ≤ length bs → length bs ≤ p → tokens 0 at (drop at bs) ≡ tokens 0 p (drop p bs) → Lexed bs at (record { token = End; place = p; end = p })
 lexed_end bs at p after within out sofar = record {
   after = after;
-  placed = record { within = within; inner = λ more. absurd (more refl); last = λ _. out };
+  placed = record { within = within; inner = λ more. absurd (more refl); last = λ _. out; numeral = λ s ds i. absurd cc };
   first = sofar ∙ at_drop_all (tokens 0 p) bs p out ∙ ap (λ xs. tok p end ∷ xs) (cond_above p (length bs) _ [] [] out refl);
 }

@@ -6,7 +6,6 @@ mod Outcomes
 mod Tried
 mod Trees
 pub mod Exactly
-mod Numbers
 pub mod Steps
 mod Whole
 pub mod Stacks

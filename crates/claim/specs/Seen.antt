@@ -1,5 +1,7 @@
 -- What the code sees of a text.
-use Rattle.std.specs.Prelude.{◌≡◌, ℕ, ◌<◌, ◌≤◌, cond, List, [], ◌∷◌, length, drop, ◌≢◌, nat_lt}
+use Rattle.std.specs.Prelude.{◌≡◌, ℕ, ◌<◌, ◌≤◌, cond, List, [], ◌∷◌, length, drop, true, ◌≢◌, nat_lt}
+use Rattle.std.specs.Str.{all_ascii_digits}
+use Rattle.claim.specs.declared.code.Sort.{Sort}
 use Rattle.claim.specs.declared.lexer.Token.{Token}
 use Rattle.claim.specs.declared.lexer.Token.TheVariants.{Not, And, Or, Open, Close, Constant, Name, Wrong, End}
 use Rattle.claim.specs.declared.lexer.Class as code
@@ -26,10 +28,15 @@ class_of (Letter s) = letter s
 abbrev pub left : List ℕ → Lexeme → List Tok
 left bs x = tok x.place (kind_of x.token) ∷ cond (nat_lt x.place (length bs)) (tokens 0 x.end (drop x.end bs)) []
 
+-- one digit or more, and nothing else
+abbrev pub Numeral : List ℕ → Type 0
+Numeral ds = (0 < length ds) × (all_ascii_digits ds ≡ true)
+
 pub record Placed (bs : List ℕ) (x : Lexeme) : Type 0 where
   pub within : x.place ≤ length bs
   pub inner : (x.token ≢ End) → (x.place < x.end) × (x.end ≤ length bs)
   pub last : x.token ≡ End → length bs ≤ x.place
+  pub numeral : (s : Sort) (ds : List ℕ) → kind_of x.token ≡ name s ds → Numeral ds
 
 -- x is the first token at or after a place
 pub record Lexed (bs : List ℕ) (at : ℕ) (x : Lexeme) : Type 0 where

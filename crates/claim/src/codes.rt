@@ -2,12 +2,14 @@
 ghost use Rattle.std.specs.Prelude.{◌≡◌, ◌≤◌, length};
 ghost use Rattle.claim.specs.Grammar.{Tree, post};
 
+use crate::LONGEST;
 use crate::code::Code;
 use arrayvec::ArrayVec;
 
 #[derive(Drop)]
 pub struct Codes {
-    pub(crate) list: ArrayVec<Code, 512>,
+    pub(crate) list: ArrayVec<Code, LONGEST>,
+    // For the callers: a lent list does not tell its capacity, and a clause of `codes` would say the same.
     ghost within: { length list.items ≤ 512 },
     ghost made: { ∥ ((t : Tree) × (list.items ≡ post t)) ∥₁ },
 }

@@ -5,6 +5,7 @@ ghost use Rattle.claim.specs.Grammar.{Tree, post};
 ghost use Rattle.claim.specs.Result.{used};
 ghost use Rattle.claim.specs.Truth.{stack, apply, arity, logic, truth, valuation};
 
+use crate::LONGEST;
 use crate::code::*;
 use crate::codes::Codes;
 use arrayvec::ArrayVec;
@@ -26,12 +27,14 @@ impl Valuation<'_> {
             Sort::Input => self.inputs,
             Sort::Gate => self.gates,
         };
-        values.get(n as usize).copied().unwrap_or(false)
+        values.get(usize::from(n)).copied().unwrap_or(false)
     }
 }
 
 // Does what a code does, with the truths of the names. A match, and no closures: a code is data, read from a text.
-fn act(operands: &mut ArrayVec<bool, 512>, code: Code, values: &Valuation)
+// `making` does the same in a store. One function for both would take a trait of five acts, with their laws over what
+// a store shows, and a refusal at a place, which no truth has.
+fn act(operands: &mut ArrayVec<bool, LONGEST>, code: Code, values: &Valuation)
     requires enough { arity code.act ≤ array_vec_len operands.old }
     requires room { array_vec_len operands.old < 512 }
     ensures items { stack (reverse operands.new.items) ≡ apply (logic (valuation values.now)) code.place code.act (reverse operands.old.items) }

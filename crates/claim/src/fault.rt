@@ -14,7 +14,7 @@ pub enum Fault {
 }
 
 impl Fault {
-    // Methods, since `as` takes no enum that holds values.
+    // Methods, and no `as`: the cases hold places.
     pub fn number(self) -> u8
         ensures { result ≡ number_of self }
     {

@@ -1,6 +1,6 @@
 // Cuts a claim's text into tokens.
-ghost use Rattle.std.specs.Prelude.{◌≡◌, ◌≤◌, length, ◌≢◌, ◌==◌};
-ghost use Rattle.std.specs.Char.{is_ascii_digit};
+ghost use Rattle.std.specs.Prelude.{◌≡◌, ℕ, ◌≤◌, Bool, length, ◌≢◌};
+ghost use Rattle.std.specs.Iterator.{ActsAsAt};
 ghost use Rattle.std.specs.List.{prefix_len};
 ghost use Rattle.claim.specs.Tokens.{class, digits, name_of};
 ghost use Rattle.claim.specs.Seen.{kind_of, class_of, Lexed};
@@ -8,7 +8,7 @@ ghost use Rattle.claim.specs.Seen.{kind_of, class_of, Lexed};
 use crate::code::*;
 
 #[derive(Clone, Copy)]
-pub enum Token<'a> {
+pub(crate) enum Token<'a> {
     Not,
     And,
     Or,
@@ -22,14 +22,14 @@ pub enum Token<'a> {
 
 // A token with its place, and the place after it.
 #[derive(Clone, Copy)]
-pub struct Lexeme<'a> {
-    pub token: Token<'a>,
-    pub place: usize,
-    pub end: usize,
+pub(crate) struct Lexeme<'a> {
+    pub(crate) token: Token<'a>,
+    pub(crate) place: usize,
+    pub(crate) end: usize,
 }
 
 // What a byte other than a space begins.
-pub enum Class<'a> {
+enum Class<'a> {
     Mark(Token<'a>),
     Letter(Sort),
 }
@@ -38,7 +38,7 @@ fn class_of<'a>(byte: u8) -> Class<'a>
     requires { byte ≢ 32 }
     ensures { class_of result ≡ class byte }
 {
-    match byte as char {
+    match char::from(byte) {
         '!' => Class::Mark(Token::Not),
         '&' => Class::Mark(Token::And),
         '|' => Class::Mark(Token::Or),
@@ -53,20 +53,13 @@ fn class_of<'a>(byte: u8) -> Class<'a>
     }
 }
 
-// How many spaces the text begins with.
-fn count_spaces(text: &[u8]) -> usize
-    ensures count { result ≡ prefix_len (λ byte. byte == 32) text.now }
+// How many bytes at the front of the text pass a test.
+fn leading<F: Fn(u8) -> bool>(text: &[u8], test: F) -> usize
+    requires { F.IsAlwaysCallable test }
+    ensures count { (passes : ℕ → Bool) → ((byte : ℕ) (r : Bool) → F.post test byte r → r ≡ passes byte) → result ≡ prefix_len passes text.now }
     ensures within { result ≤ length text.now }
 {
-    text.iter().take_while(|byte| **byte == b' ').count()
-}
-
-// How many digits the text begins with.
-fn count_digits(text: &[u8]) -> usize
-    ensures count { result ≡ prefix_len is_ascii_digit text.now }
-    ensures within { result ≤ length text.now }
-{
-    text.iter().take_while(|byte| byte.is_ascii_digit()).count()
+    text.iter().take_while(|byte| test(**byte)).count()
 }
 
 // The name that a letter begins with these digits.
@@ -80,11 +73,11 @@ fn name(sort: Sort, digits: &[u8]) -> Token<'_>
 }
 
 // The first token at or after `at`.
-pub fn next_token(text: &[u8], at: usize) -> Lexeme<'_>
+pub(crate) fn next_token(text: &[u8], at: usize) -> Lexeme<'_>
     requires { at ≤ length text.now }
     ensures { Lexed text.now at result }
 {
-    let place = at + count_spaces(&text[at..]);
+    let place = at + leading(&text[at..], |byte| byte == b' ');
     let Some(byte) = text.get(place) else {
         return Lexeme {
             token: Token::End,
@@ -99,7 +92,7 @@ pub fn next_token(text: &[u8], at: usize) -> Lexeme<'_>
             end: place + 1,
         },
         Class::Letter(sort) => {
-            let end = place + 1 + count_digits(&text[place + 1..]);
+            let end = place + 1 + leading(&text[place + 1..], |byte| byte.is_ascii_digit());
             Lexeme {
                 token: name(sort, &text[place + 1..end]),
                 place,

@@ -21,7 +21,8 @@ use fault::Fault;
 use lexer::*;
 use reader::{Depth, Reader};
 
-const LONGEST: usize = 512;
+// The most bytes of a text, and so the most codes of a claim.
+pub const LONGEST: usize = 512;
 
 // Reads a claim about a circuit of these sizes.
 pub fn read(text: &[u8], sizes: Sizes) -> Result<Codes, Fault>

@@ -2,24 +2,26 @@
 ghost use Rattle.std.specs.Prelude.{◌≡◌, ℕ, ◌+◌, ◌<◌, ◌≤◌, [], ◌∷◌, length, MatchOption, MatchResult, ◌≢◌};
 ghost use Rattle.claim.specs.declared.lexer.Token.TheVariants.{Close, End};
 ghost use Rattle.claim.specs.Tokens.{tok, rparen, name};
-ghost use Rattle.claim.specs.Seen.{kind_of, Placed};
+ghost use Rattle.claim.specs.Seen.{kind_of, Placed, Numeral};
 ghost use Rattle.claim.specs.Grammar.{claim, term, factor, value, code, limit};
 
+use crate::LONGEST;
 use crate::code::*;
 use crate::fault::Fault;
 use crate::lexer::*;
 use arrayvec::ArrayVec;
 use circuit::sizes::Sizes;
+use std::str;
 
 const DEEPEST: usize = 16;
 
 // There is room for a code for each byte that is left.
 #[derive(Drop)]
-pub struct Reader<'a> {
+pub(crate) struct Reader<'a> {
     text: &'a [u8],
     sizes: Sizes,
-    pub ahead: Lexeme<'a>,
-    pub codes: ArrayVec<Code, 512>,
+    pub(crate) ahead: Lexeme<'a>,
+    pub(crate) codes: ArrayVec<Code, LONGEST>,
     ghost short: { length text.now ≤ 512 },
     ghost placed: { Placed text.now ahead },
     ghost fits: { length codes.items ≤ ahead.place },
@@ -27,26 +29,22 @@ pub struct Reader<'a> {
 
 // The number that the digits write, if it is below `most`.
 fn number_below(digits: &[u8], most: u16) -> Option<u16>
+    requires { Numeral digits.now }
     ensures { MatchOption result (most ≤ value digits.now) (λ n. (n ≡ value digits.now) × (n < most)) }
 {
-    let mut n: u16 = 0;
-    for digit in digits {
-        n = n
-            .checked_mul(10)?
-            .checked_add(digit.saturating_sub(b'0') as u16)?;
-    }
+    let n = str::from_utf8(digits).ok()?.parse().ok()?;
     (n < most).then_some(n)
 }
 
 // How many `!` and `(` are open.
 #[derive(Clone, Copy)]
-pub struct Depth {
+pub(crate) struct Depth {
     opened: usize,
     ghost few: { opened ≤ 16 },
 }
 
 impl Depth {
-    pub const NONE: Self = Depth { opened: 0 };
+    pub(crate) const NONE: Self = Depth { opened: 0 };
 
     // One more, by the token at `place`.
     fn deeper(self, place: usize) -> Result<Self, Fault>
@@ -65,7 +63,7 @@ impl Depth {
 impl<'a> Reader<'a> {
     ghost use Rattle.claim.specs.Reading.{ahead, Begun, Reach, Taken, Stopped};
 
-    pub fn new(text: &'a [u8], sizes: Sizes) -> Self
+    pub(crate) fn new(text: &'a [u8], sizes: Sizes) -> Self
         requires { length text.now ≤ 512 }
         ensures { Begun text.now sizes result }
     {
@@ -141,9 +139,10 @@ impl<'a> Reader<'a> {
         Ok(())
     }
 
-    // Two loops: one for both would have to switch on which rule of the grammar comes next.
+    // Two loops: of one that takes the inner reader, `joined-requires` stayed open, since in a cycle that reader is
+    // not always callable, but only further on; and one over a level would switch on which rule comes next.
     #[cycle(claim_factor_term)]
-    pub fn claim(&mut self, depth: Depth) -> Result<(), Fault>
+    pub(crate) fn claim(&mut self, depth: Depth) -> Result<(), Fault>
         ensures { MatchResult result (λ _. Taken claim depth.opened self.old self.new) (λ f. Stopped claim depth.opened self.old self.new f) }
     {
         self.term(depth)?;

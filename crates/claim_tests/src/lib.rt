@@ -122,11 +122,11 @@ mod tests {
 
     #[test]
     fn bytes(rt: HostRuntime) {
-        assert_eq!(rt; outcome(&[0]), Err(Claim(0)));
-        assert_eq!(rt; outcome(&[255]), Err(Claim(0)));
-        assert_eq!(rt; outcome(&[b's', b'0', 0]), Err(Claim(2)));
-        assert_eq!(rt; outcome(&[b's', 176]), Err(Claim(0)));
-        assert_eq!(rt; outcome(&[b's', b'0', b' ', 160]), Err(Claim(3)));
+        assert_eq!(rt; outcome(b"\0"), Err(Claim(0)));
+        assert_eq!(rt; outcome(b"\xff"), Err(Claim(0)));
+        assert_eq!(rt; outcome(b"s0\0"), Err(Claim(2)));
+        assert_eq!(rt; outcome(b"s\xb0"), Err(Claim(0)));
+        assert_eq!(rt; outcome(b"s0 \xa0"), Err(Claim(3)));
     }
 
     #[test]
@@ -145,6 +145,7 @@ mod tests {
     fn lengths(rt: HostRuntime) {
         assert_eq!(rt; outcome(&[b'!'; 513]), Err(Claim(512)));
         let mut text = ands();
+        // Ranges from 0: of those to an end alone, `slice_bounds` stayed open.
         assert_eq!(rt; outcome(&text), Err(Claim(512)));
         assert_eq!(rt; outcome(&text[0..512]), Err(Claim(512)));
         assert_eq!(rt; outcome(&text[0..511]), Ok(511));

@@ -6,7 +6,7 @@ use Rattle.runs.specs.Systems.{System}
 use Rattle.runs.specs.Search.{faulty, leads_into, bad, initial_in, Least, Trace}
 use Rattle.uses.specs.Calls.{written}
 use Rattle.uses.proofs.Written.{written_at}
-use Rattle.decide.specs.declared.trace.Step.{Step}
+use Rattle.engine.specs.declared.step.Step.{Step}
 use Rattle.decide.specs.Traces.{none}
 
 -- a step has what was written at its place

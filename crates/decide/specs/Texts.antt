@@ -2,7 +2,7 @@
 use Rattle.std.specs.Prelude.{ℕ, zero, suc, List, [], ◌++◌, codes, decimal, length}
 use Rattle.circuit.specs.declared.sizes.Sizes.{Sizes}
 use Rattle.circuit.specs.Texts.{sizes_text}
-use Rattle.job.specs.Notices.{notice_text}
+use Rattle.description.specs.Notices.{notice_text}
 use Rattle.decide.specs.declared.report.Report.{Report}
 use Rattle.decide.specs.declared.report.Report.TheVariants.{Safe, Unsafe, Refused}
 use Rattle.decide.specs.declared.trace.Trace.{Trace}

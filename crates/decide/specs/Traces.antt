@@ -1,6 +1,6 @@
 -- A trace by the numbers of its steps.
 use Rattle.std.specs.Prelude.{ℕ, ◌-◌, length, slice_index_or}
-use Rattle.decide.specs.declared.trace.Step.{Step}
+use Rattle.engine.specs.declared.step.Step.{Step}
 use Rattle.decide.specs.declared.trace.Trace.{Trace}
 
 -- the number of the last step

@@ -7,6 +7,7 @@ ghost use Rattle.decide.specs.Searches.{CountsInside, HandsOut, Decided, Conclud
 use super::report::Report;
 use super::trace::Trace;
 use circuit::sizes_at;
+use engine::search::MOST_STEPS;
 use engine::session::Session;
 use making::fault::Fault;
 use store::Store;
@@ -18,7 +19,8 @@ fn count_inside<S: Store>(session: &mut Session<S>, registers: u16) -> Result<u1
     ensures { CountsInside (world S.Store.shows session.old) registers result }
 {
     let mut count = 0;
-    // A `for`: `filter` takes no test that can be refused.
+    // A `for`: of a sum of results the library says nothing, and a `try_fold` needs a clause on its closure, that the sum fits,
+    // and then `try_fold-requires-clause-callable` stayed open.
     for q in 0..1 << registers {
         count += u16::from(session.inside(q)?);
     }
@@ -29,11 +31,11 @@ fn read_trace<S: Store>(session: &mut Session<S>, depth: u16) -> Result<Trace, F
     requires { depth ≤ 256 }
     ensures { HandsOut (world S.Store.shows session.old) depth result }
 {
-    // Two arrays, as the call takes them.
-    let mut states = [0; 257];
-    let mut inputs = [0; 257];
+    // Two arrays, by the rule of the call: a session fills two that are lent.
+    let mut states = [0; MOST_STEPS];
+    let mut inputs = [0; MOST_STEPS];
     session.trace(&mut states, &mut inputs)?;
-    let count = depth as usize + 1;
+    let count = usize::from(depth) + 1;
     Ok(Trace::of(&states[..count], &inputs[..count]))
 }
 

@@ -2,8 +2,8 @@ ghost use Rattle.std.specs.Prelude.{◌≡◌};
 ghost use Rattle.decide.specs.declared.fault.Fault.TheVariants.{Frame as of_frame, Call as of_call};
 ghost use Rattle.decide.specs.Faults.{notice_of};
 
+use description::notice::Notice;
 use job::fault::Fault as Unframed;
-use job::notice::Notice;
 use making::fault::Fault as Refusal;
 
 // Why a job is refused.
@@ -38,11 +38,7 @@ impl Fault {
     {
         match self {
             Fault::Frame(fault) => fault.notice(),
-            Fault::Call(fault) => Notice {
-                number: fault.number(),
-                part: fault.part(),
-                place: fault.place(),
-            },
+            Fault::Call(fault) => fault.notice(),
         }
     }
 }

@@ -7,7 +7,7 @@ ghost use Rattle.decide.specs.Searches.{reported};
 mod conclude;
 pub mod fault;
 pub mod report;
-mod search;
+pub mod search;
 pub mod text;
 pub mod trace;
 
@@ -22,12 +22,12 @@ use store::Store;
 fn run<S: Store + Drop>(job: &[u8], store: S) -> Result<Report, Fault>
     ensures { Reports (S.Store.shows store) job.now (reported result) }
 {
-    let frame = split(job)?;
+    let source = split(job)?;
     let mut session = Session::new(store);
-    let first = session.load(frame.circuit, frame.assumption, frame.property)?;
+    let first = session.load(source)?;
     let depth = settle(&mut session, first)?;
     let verdict = session.verdict();
-    Ok(conclude(&mut session, frame.circuit, depth, verdict)?)
+    Ok(conclude(&mut session, source.circuit, depth, verdict)?)
 }
 
 // What is to be said of a job, whatever its bytes, by a search in the store.

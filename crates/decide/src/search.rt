@@ -10,7 +10,7 @@ use store::Store;
 use uses::verdict::Verdict;
 
 // Advances from the first verdict until it is settled, and answers how often.
-pub(crate) fn settle<S: Store>(session: &mut Session<S>, first: Verdict) -> Result<u16, Fault>
+pub fn settle<S: Store>(session: &mut Session<S>, first: Verdict) -> Result<u16, Fault>
     ensures short { IfOk result (λ j. j ≤ 256) }
     ensures settles { Settles (world S.Store.shows session.old) first result (world S.Store.shows session.new) }
 {

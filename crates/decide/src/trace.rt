@@ -1,18 +1,13 @@
 ghost use Rattle.std.specs.Prelude.{◌≡◌, ◌-◌, ◌<◌, ◌≤◌, length, map};
 
 use arrayvec::ArrayVec;
-
-// The state and the input of a step.
-#[derive(Clone, Copy, Default, PartialEq, Eq, Debug)]
-pub struct Step {
-    pub state: u16,
-    pub input: u16,
-}
+use engine::search::MOST_STEPS;
+use engine::step::Step;
 
 // A run by its steps, from step 0 on.
 #[derive(Drop)]
 pub struct Trace {
-    pub steps: ArrayVec<Step, 257>,
+    pub steps: ArrayVec<Step, MOST_STEPS>,
     ghost begun: { 0 < length steps.items },
 }
 
@@ -20,7 +15,7 @@ impl Trace {
     // The run with these states and inputs.
     pub(crate) fn of(states: &[u16], inputs: &[u16]) -> Trace
         requires begun { 0 < length states.now }
-        requires short { length states.now ≤ 257 }
+        requires short { length states.now ≤ MOST_STEPS }
         requires as_many { length inputs.now ≡ length states.now }
         ensures states { map (λ s. s.state) result.steps.items ≡ states.now }
         ensures inputs { map (λ s. s.input) result.steps.items ≡ inputs.now }

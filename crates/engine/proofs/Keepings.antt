@@ -1,6 +1,6 @@
 -- From what one call did to any use that it is a call of.
-use Rattle.std.proofs.Common.{◌≡◌, ℕ, true, false, Option, Some, None, MatchOption, IsErrAnd, Err, Result, ◌∷◌, refl, ap, ◌∙◌, sym, subst}
-use Rattle.std.specs.Option.{is_some}
+use Rattle.std.proofs.Common.{◌≡◌, ℕ, true, false, Option, Some, None, MatchOption, IsErrAnd, Ok, Err, Result, ◌∷◌, refl, ap, ◌∙◌, sym, subst}
+use Rattle.std.specs.Option.{is_some, option_map, ok_or}
 use Rattle.std.proofs.lemmas.Result.{err_from_is_err_and}
 use Rattle.store.specs.Meaning.{Shown}
 use Rattle.making.specs.declared.fault.Fault.{Fault}
@@ -43,6 +43,22 @@ module _ (w : World) (c : Call) where
 pub handed_on : {X : Type 0} (r : Result X Fault) (e : Fault) → IsErrAnd r (λ y. y ≡ e) → r ≡ Err e
 handed_on r e b = let p = err_from_is_err_and r b in p.1 ∙ ap Err p.2
 
+-- the search that is lent out of a session, or that it has none
+module _ {R : Type 0} (now : R → Search) (there : Option Search) (o : Option R) (e : option_map now o ≡ there) where
+  pub lent : (r : Result R Fault) (f : Fault) → r ≡ ok_or o f → (k : R) → r ≡ Ok k → there ≡ Some (now k)
+  lent r f p k q = sym e ∙ go o (sym p ∙ q)
+    where
+      go : (o : Option R) → ◌≡◌ {A = Result R Fault} (ok_or o f) (Ok k) → option_map now o ≡ Some (now k)
+      go None p = never (cc)
+      go (Some x) p = let h : x ≡ k = cc in ap (λ y. Some (now y)) h
+
+  pub not_lent : (r : Result R Fault) (f : Fault) → r ≡ ok_or o f → (x : Fault) → r ≡ Err x → (there ≡ None) × (x ≡ f)
+  not_lent r f p x q = let b = go o (sym p ∙ q) in (sym e ∙ b.0, b.1)
+    where
+      go : (o : Option R) → ◌≡◌ {A = Result R Fault} (ok_or o f) (Err x) → (option_map now o ≡ None) × (x ≡ f)
+      go None p = (refl, cc)
+      go (Some y) p = never (cc)
+
 pub is_there : {X : Type 0} (o : Option X) → is_some o ≡ true → (x : X) × (o ≡ Some x)
 is_there None e = never (cc)
 is_there (Some x) e = (x, refl)
@@ -52,13 +68,12 @@ not_there None e = refl
 not_there (Some x) e = never (cc)
 
 -- what the verdict call answers
-pub told_none : (st : State) (w : World) → w.search ≡ None → Keeps st w → verdict.Empty ≡ told st
-told_none empty w e k = refl
-told_none (loaded m j) w e k = absurd (subst (λ o. MatchOption o ⊥ (Sets m j w.store)) e k)
-
-pub told_some : (st : State) (w : World) (k : Search) → w.search ≡ Some k → Keeps st w → k.verdict ≡ told st
-told_some empty w k e n = never (cc)
-told_some (loaded m j) w k e h = (subst (λ o. MatchOption o ⊥ (Sets m j w.store)) e h).verdict
+pub told_by : {R : Type 0} (now : R → Search) (P : R → Type 0) (st : State) (w : World) (o : Option R) (v : Verdict) → option_map now o ≡ w.search
+    → MatchOption o (v ≡ verdict.Empty) P → ((k : R) → P k → v ≡ (now k).verdict) → Keeps st w → v ≡ told st
+told_by now P empty w None v e m f h = m
+told_by now P empty w (Some k) v e m f h = let p = e ∙ h in never (cc)
+told_by now P (loaded m j) w None v e q f h = absurd (subst (λ o. MatchOption o ⊥ (Sets m j w.store)) (sym e) h)
+told_by now P (loaded m j) w (Some k) v e q f h = f k q ∙ (subst (λ o. MatchOption o ⊥ (Sets m j w.store)) (sym e) h).verdict
 
 pub asked : (w : World) (r : Verdict) → ((st : State) → Keeps st w → r ≡ told st) → Next w (ask r) w
 asked w r f h st u k = let x = stand st w.store in (st, subst (λ a. Use (event x (ask a) x ∷ h) x) (sym (f st k)) (went_on u asks), k)

@@ -1,7 +1,7 @@
 -- What the questions of a session promise one another: s is what the store shows.
-use Rattle.std.specs.Prelude.{◌≡◌, ℕ, ◌+◌, ◌*◌, ◌^◌, ◌<◌, ◌≤◌, Bool, false, Ok, Err, Result, length, slice_index}
+use Rattle.std.specs.Prelude.{◌≡◌, ℕ, ◌+◌, ◌*◌, ◌^◌, ◌<◌, ◌≤◌, Bool, false, Ok, Err, Result, map, slice_index}
 use Rattle.std.specs.Borrow.{MutBor}
-use Rattle.arrayvec.specs.ArrayVec.{array_vec_len}
+use Rattle.arrayvec.specs.ArrayVec.{ArrayVec, array_vec_len}
 use Rattle.store.specs.Fun.{Fn}
 use Rattle.store.specs.Meaning.{Shown}
 use Rattle.making.specs.declared.fault.Fault.{Fault}
@@ -14,7 +14,7 @@ use Rattle.runs.specs.Models.{Model, system, Valid}
 use Rattle.runs.specs.Search.{faulty, leads_into, bad, initial_in, unsafe, verdict, Reached, Least, Trace}
 use Rattle.runs.specs.Systems.{State, Input}
 use Rattle.engine.specs.declared.search.Search.{Search}
-use Rattle.engine.specs.declared.path.Path.{Path}
+use Rattle.engine.specs.declared.step.Step.{Step}
 use Rattle.engine.specs.Keeping.{Sets}
 
 -- the numbers are those of the model's claims, Init and next values
@@ -57,15 +57,15 @@ abbrev pub Finds : ℕ → (ℕ → Bool) → Result ℕ Fault → Type 0
 Finds n f (Ok x) = Least n f x
 Finds n f (Err e) = (x : ℕ) → x < n → f x ≡ false
 
--- the path of a trace of d steps
-abbrev pub TracedBy : Model → ℕ → Result Path Fault → Type 0
-TracedBy m d (Ok p) = Trace (system m) d (λ t. slice_index p.states.items t) (λ t. slice_index p.inputs.items t)
+-- the steps of a trace of depth d
+abbrev pub TracedBy : Model → ℕ → Result (ArrayVec Step) Fault → Type 0
+TracedBy m d (Ok xs) = Trace (system m) d (λ t. slice_index (map (λ x. x.state) xs.items) t) (λ t. slice_index (map (λ x. x.input) xs.items) t)
 TracedBy m d (Err e) = ⊥
 
--- a state and an input for each set
-abbrev pub Covers : Search → Path → Type 0
-Covers k p = (length p.states.items ≡ array_vec_len k.earlier + 1) × (length p.inputs.items ≡ array_vec_len k.earlier + 1)
+-- a step for each set
+abbrev pub Covers : Search → ArrayVec Step → Type 0
+Covers k xs = array_vec_len xs ≡ array_vec_len k.earlier + 1
 
 -- where the sets are kept and the last verdict is unsafe
-abbrev pub Walks : Shown → Search → Result Path Fault → Type 0
+abbrev pub Walks : Shown → Search → Result (ArrayVec Step) Fault → Type 0
 Walks s k r = (m : Model) (j : ℕ) → Sets m j s k → Reached (system m) j → verdict (system m) j ≡ unsafe j → TracedBy m j r

@@ -10,7 +10,7 @@ use super::search::Search;
 use super::session::Session;
 use description::part::Part;
 use making::fault::Fault;
-use making::{back, place_at};
+use making::{FALSE, back, place_at};
 use store::Store;
 use uses::verdict::Verdict;
 
@@ -24,7 +24,7 @@ impl Search {
         let set = place_at(back(store, self.set, &self.parts), Part::Sets, count)?;
         let verdict = if set == self.set {
             Verdict::Safe
-        } else if place_at(store.and(set, self.parts.init), Part::Sets, count)? == 0 {
+        } else if place_at(store.and(set, self.parts.init), Part::Sets, count)? == FALSE {
             Verdict::Open
         } else {
             Verdict::Unsafe(count + 1)
@@ -55,9 +55,7 @@ impl<S: Store> Session<S> {
         ensures next { Next (world S.Store.shows self.old) (advance result) (world S.Store.shows self.new) }
         ensures refused { is_err result ≡ true → self.new.search ≡ self.old.search }
     {
-        match self.search.as_mut() {
-            Some(search) => search.advance(&mut self.store),
-            None => Err(Fault::Empty),
-        }
+        let search = self.search.as_mut().ok_or(Fault::Empty)?;
+        search.advance(&mut self.store)
     }
 }

@@ -16,6 +16,7 @@ pub(crate) fn smallest<S: Store, F: Fn(&mut S, u16) -> Result<bool, Fault>>(
     ensures same { S.Store.shows store.new ≡ S.Store.shows store.old }
     ensures finds { (f : ℕ → Bool) → Telling S.Store.shows (F.post holds) (S.Store.shows store.old) count f → Finds count f result }
 {
+    // A `for`: `find` takes no test that can be refused.
     for x in 0..count {
         if holds(store, x)? {
             return Ok(x);

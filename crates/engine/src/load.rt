@@ -8,9 +8,10 @@ use super::search::Search;
 use super::session::Session;
 use arrayvec::ArrayVec;
 use description::describe;
-use making::build;
+use description::source::Source;
 use making::fault::Fault;
 use making::parts::Built;
+use making::{FALSE, build};
 use store::Store;
 use uses::verdict::Verdict;
 
@@ -18,7 +19,7 @@ use uses::verdict::Verdict;
 fn begin(built: Built) -> Search
     ensures { BeginsFrom built result }
 {
-    let verdict = if built.met == 0 {
+    let verdict = if built.met == FALSE {
         Verdict::Open
     } else {
         Verdict::Unsafe(0)
@@ -32,26 +33,16 @@ fn begin(built: Built) -> Search
 }
 
 impl<S: Store> Session<S> {
-    pub fn load(
-        &mut self,
-        file: &[u8],
-        assumption: &[u8],
-        property: &[u8],
-    ) -> Result<Verdict, Fault>
-        ensures next { Next (world S.Store.shows self.old) (load file.now assumption.now property.now result) (world S.Store.shows self.new) }
+    pub fn load(&mut self, source: Source) -> Result<Verdict, Fault>
+        ensures next { Next (world S.Store.shows self.old) (load source.entry.circuit.now source.entry.assumption.now source.entry.property.now result) (world S.Store.shows self.new) }
         ensures refused { is_err result ≡ true → self.new.search ≡ self.old.search }
     {
         if self.search.is_some() {
             return Err(Fault::Loaded);
         }
         let width = self.store.figures().variables;
-        let described = describe(file, assumption, property, width)?;
-        let built = build(
-            &mut self.store,
-            &described.circuit,
-            &described.assumption,
-            &described.property,
-        )?;
+        let described = describe(source, width)?;
+        let built = build(&mut self.store, &described)?;
         let search = begin(built);
         let verdict = search.verdict;
         self.search = Some(search);

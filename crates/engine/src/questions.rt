@@ -6,7 +6,7 @@ ghost use Rattle.uses.specs.Uses.{Use};
 ghost use Rattle.engine.specs.Keeping.{world, Keeps, Next};
 
 use super::session::Session;
-use super::values::power;
+use super::step::Step;
 use making::fault::Fault;
 use store::Store;
 use uses::verdict::Verdict;
@@ -25,32 +25,30 @@ impl<S: Store> Session<S> {
     }
 
     // The verdict, and with it what any use that led here comes to.
+    // No `Option`: `Empty` is a verdict of the rules, which a session answers before a load.
     pub fn verdict(&mut self) -> Verdict
         ensures promise { (h : List Event) (st : State) → Use h (stand st (world S.Store.shows self.old).store) → Keeps st (world S.Store.shows self.old) → Promise h st result }
         ensures next { Next (world S.Store.shows self.old) (ask result) (world S.Store.shows self.new) }
         ensures same { self.new ≡ self.old }
     {
-        match &self.search {
-            Some(search) => search.verdict,
-            None => Verdict::Empty,
-        }
+        self.search
+            .as_ref()
+            .map_or(Verdict::Empty, |search| search.verdict)
     }
 
-    // Whether the last set does not hold the state q.
-    pub fn inside(&mut self, q: u16) -> Result<bool, Fault>
-        ensures next { Next (world S.Store.shows self.old) (inside q result) (world S.Store.shows self.new) }
+    // Whether the last set does not hold a state.
+    pub fn inside(&mut self, state: u16) -> Result<bool, Fault>
+        ensures next { Next (world S.Store.shows self.old) (inside state result) (world S.Store.shows self.new) }
         ensures same { world S.Store.shows self.new ≡ world S.Store.shows self.old }
     {
-        let Some(search) = &self.search else {
-            return Err(Fault::Empty);
-        };
+        let search = self.search.as_ref().ok_or(Fault::Empty)?;
         let Verdict::Safe = search.verdict else {
             return Err(Fault::Verdict);
         };
-        if q >= power(search.parts.n) {
+        if state >= search.states() {
             return Err(Fault::State);
         }
-        let held = search.truth(&mut self.store, search.set, q, 0)?;
+        let held = search.truth(&mut self.store, search.set, Step::at(state))?;
         Ok(!held)
     }
 }

@@ -4,77 +4,81 @@ ghost use Rattle.std.specs.Prelude.{◌≡◌};
 ghost use Rattle.engine.specs.Questions.{Tells, GoesTo, Leads, Faults, Begins};
 
 use super::search::Search;
-use super::values::spread;
+use super::step::Step;
 use making::fault::Fault;
 use store::Store;
 use store::refusal::Refusal;
 
 impl Search {
-    // The truth of function a at a state and an input.
+    // The truth of a function at a step.
     pub(crate) fn truth<S: Store>(
         &self,
         store: &mut S,
-        a: u16,
-        q: u16,
-        v: u16,
+        function: u16,
+        step: Step,
     ) -> Result<bool, Fault>
         ensures same { S.Store.shows store.new ≡ S.Store.shows store.old }
-        ensures tells { Tells (S.Store.shows store.old) self.now.parts.n a q v result }
+        ensures tells { Tells (S.Store.shows store.old) self.now.parts.n function step.state step.input result }
     {
         store
-            .value(a, spread(self.parts.n, q, v))
+            .value(function, step.valuation(self.parts.n))
             .map_err(|refusal| match refusal {
                 Refusal::Variable => Fault::Variable,
                 _ => Fault::Number,
             })
     }
 
-    // The state after q under the input v.
-    pub(crate) fn next_state<S: Store>(&self, store: &mut S, q: u16, v: u16) -> Result<u16, Fault>
+    // The state after a step.
+    pub(crate) fn next_state<S: Store>(&self, store: &mut S, step: Step) -> Result<u16, Fault>
         ensures same { S.Store.shows store.new ≡ S.Store.shows store.old }
-        ensures goes { GoesTo (S.Store.shows store.old) self.now.parts q v result }
+        ensures goes { GoesTo (S.Store.shows store.old) self.now.parts step.state step.input result }
     {
         let mut next = 0;
-        for bit in self.parts.nexts.as_slice().iter().rev() {
-            next = 2 * next + self.truth(store, bit.function, q, v)? as u16;
+        for bit in self.parts.nexts.iter().rev() {
+            next = 2 * next + u16::from(self.truth(store, bit.function, step)?);
         }
         Ok(next)
     }
 
-    // Whether v satisfies the assumption at q and leads into a set.
+    // Whether a step satisfies the assumption and leads into a set.
     pub(crate) fn leads_into<S: Store>(
         &self,
         store: &mut S,
         set: u16,
-        q: u16,
-        v: u16,
+        step: Step,
     ) -> Result<bool, Fault>
         ensures same { S.Store.shows store.new ≡ S.Store.shows store.old }
-        ensures leads { Leads (S.Store.shows store.old) self.now.parts set q v result }
+        ensures leads { Leads (S.Store.shows store.old) self.now.parts set step.state step.input result }
     {
-        if !self.truth(store, self.parts.assumed, q, v)? {
+        if !self.truth(store, self.parts.assumed, step)? {
             return Ok(false);
         }
-        let next = self.next_state(store, q, v)?;
-        self.truth(store, set, next, 0)
+        let next = self.next_state(store, step)?;
+        self.truth(store, set, Step::at(next))
     }
 
-    // Whether v satisfies the assumption at q and the property fails.
-    pub(crate) fn at_fault<S: Store>(&self, store: &mut S, q: u16, v: u16) -> Result<bool, Fault>
+    // Whether a step satisfies the assumption and the property fails there.
+    pub(crate) fn at_fault<S: Store>(&self, store: &mut S, step: Step) -> Result<bool, Fault>
         ensures same { S.Store.shows store.new ≡ S.Store.shows store.old }
-        ensures faults { Faults (S.Store.shows store.old) self.now.parts q v result }
+        ensures faults { Faults (S.Store.shows store.old) self.now.parts step.state step.input result }
     {
         Ok(
-            self.truth(store, self.parts.assumed, q, v)?
-                && !self.truth(store, self.parts.property, q, v)?,
+            self.truth(store, self.parts.assumed, step)?
+                && !self.truth(store, self.parts.property, step)?,
         )
     }
 
-    // Whether q is an initial state in a set.
-    pub(crate) fn begins_in<S: Store>(&self, store: &mut S, set: u16, q: u16) -> Result<bool, Fault>
+    // Whether a state is initial and in a set.
+    pub(crate) fn begins_in<S: Store>(
+        &self,
+        store: &mut S,
+        set: u16,
+        state: u16,
+    ) -> Result<bool, Fault>
         ensures same { S.Store.shows store.new ≡ S.Store.shows store.old }
-        ensures begins { Begins (S.Store.shows store.old) self.now.parts set q result }
+        ensures begins { Begins (S.Store.shows store.old) self.now.parts set state result }
     {
-        Ok(self.truth(store, self.parts.init, q, 0)? && self.truth(store, set, q, 0)?)
+        let start = Step::at(state);
+        Ok(self.truth(store, self.parts.init, start)? && self.truth(store, set, start)?)
     }
 }

@@ -5,10 +5,9 @@ ghost use Rattle.engine.specs.Keeping.{world, Next};
 ghost use Rattle.engine.specs.Questions.{Covers, Walks};
 
 use super::finding::smallest;
-use super::path::Path;
-use super::search::Search;
+use super::search::{MOST_STEPS, Search};
 use super::session::Session;
-use super::values::power;
+use super::step::Step;
 use arrayvec::ArrayVec;
 use making::fault::Fault;
 use store::Store;
@@ -16,45 +15,45 @@ use uses::verdict::Verdict;
 
 impl Search {
     // From the smallest initial state in the last set, through the sets before it, to the smallest input at fault.
-    fn walk<S: Store>(&self, store: &mut S) -> Result<Path, Fault>
+    fn walk<S: Store>(&self, store: &mut S) -> Result<ArrayVec<Step, MOST_STEPS>, Fault>
         ensures same { S.Store.shows store.new ≡ S.Store.shows store.old }
         ensures covers { IfOk result (Covers self.now) }
         ensures walks { Walks (S.Store.shows store.old) self.now result }
     {
-        let states_count = power(self.parts.n);
-        let inputs_count = power(self.parts.m);
-        let mut states = ArrayVec::new();
-        let mut inputs = ArrayVec::new();
-        let mut q = smallest(
+        let mut steps = ArrayVec::new();
+        let mut state = smallest(
             store,
-            states_count,
-            |store, q| self.begins_in(store, self.set, q),
+            self.states(),
+            |store, state| self.begins_in(store, self.set, state),
         )?;
-        states.push(q);
-        for set in self.earlier.iter().rev() {
-            let v = smallest(
+        for &set in self.earlier.iter().rev() {
+            let input = smallest(
                 store,
-                inputs_count,
-                |store, v| self.leads_into(store, *set, q, v),
+                self.inputs(),
+                |store, input| self.leads_into(store, set, Step { state, input }),
             )?;
-            inputs.push(v);
-            q = self.next_state(store, q, v)?;
-            states.push(q);
+            let step = Step { state, input };
+            steps.push(step);
+            state = self.next_state(store, step)?;
         }
-        inputs.push(smallest(store, inputs_count, |store, v| self.at_fault(store, q, v))?);
-        Ok(Path { states, inputs })
+        let input = smallest(
+            store,
+            self.inputs(),
+            |store, input| self.at_fault(store, Step { state, input }),
+        )?;
+        steps.push(Step { state, input });
+        Ok(steps)
     }
 }
 
 impl<S: Store> Session<S> {
     // Fills the starts of both arrays with the states and the inputs of the trace.
+    // Two arrays of numbers, and no list of steps: the rule of the call has its caller lend them.
     pub fn trace(&mut self, states: &mut [u16], inputs: &mut [u16]) -> Result<(), Fault>
         ensures next { Next (world S.Store.shows self.old) (trace states.old inputs.old states.new inputs.new result) (world S.Store.shows self.new) }
         ensures same { world S.Store.shows self.new ≡ world S.Store.shows self.old }
     {
-        let Some(search) = &self.search else {
-            return Err(Fault::Empty);
-        };
+        let search = self.search.as_ref().ok_or(Fault::Empty)?;
         let Verdict::Unsafe(_) = search.verdict else {
             return Err(Fault::Verdict);
         };
@@ -64,9 +63,11 @@ impl<S: Store> Session<S> {
                 needed: entries as u16,
             });
         }
-        let path = search.walk(&mut self.store)?;
-        states[..entries].copy_from_slice(path.states.as_slice());
-        inputs[..entries].copy_from_slice(path.inputs.as_slice());
+        let steps = search.walk(&mut self.store)?;
+        for (i, step) in steps.iter().enumerate() {
+            states[i] = step.state;
+            inputs[i] = step.input;
+        }
         Ok(())
     }
 }

@@ -1,9 +1,9 @@
 -- A job: the lengths of the two texts as file numbers, the circuit file, the assumption and the property.
 use Rattle.std.specs.Prelude.{ℕ, ◌+◌, ◌*◌, cond, List, length, take, drop, Ok, Err, Result, ◌==◌, nat_lt}
 use Rattle.circuit.specs.Files.{number_at}
+use Rattle.description.specs.declared.source.Source.{Source}
 use Rattle.job.specs.declared.fault.Fault.{Fault}
 use Rattle.job.specs.declared.fault.Fault.TheVariants.{Length}
-use Rattle.job.specs.declared.frame.Frame.{Frame}
 
 pub record Parts : Type 0 where
   pub circuit : List ℕ
@@ -34,6 +34,6 @@ frame bs =
     }))
     (Err (Length (length bs))))
 
-abbrev pub framed : Result Frame Fault → Result Parts Fault
-framed (Ok f) = Ok (record { circuit = f.circuit.now; assumption = f.assumption.now; property = f.property.now })
+abbrev pub framed : Result Source Fault → Result Parts Fault
+framed (Ok s) = Ok (record { circuit = s.circuit.now; assumption = s.assumption.now; property = s.property.now })
 framed (Err e) = Err e

@@ -1,4 +1,3 @@
-pub mod Notices
 pub mod Faults
 pub mod Frames
 pub mod Reports

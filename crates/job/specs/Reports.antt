@@ -2,13 +2,13 @@
 use Rattle.std.specs.Prelude.{◌≡◌, List, ℕ, ◌++◌, Ok, Err, codes, Result}
 use Rattle.circuit.specs.Texts.{sizes_text}
 use Rattle.description.specs.Checks.{Checked}
+use Rattle.description.specs.Notices.{notice_text}
 use Rattle.description.specs.declared.fault.Fault.{Fault as Misdescription}
 use Rattle.runs.specs.Models.{Model, sizes}
 use Rattle.job.specs.declared.fault.Fault.{Fault}
 use Rattle.job.specs.declared.fault.Fault.TheVariants.{Description}
 use Rattle.job.specs.declared.report.Report.{Report}
 use Rattle.job.specs.declared.report.Report.TheVariants.{Read, Refused}
-use Rattle.job.specs.Notices.{notice_text}
 use Rattle.job.specs.Faults.{notice_of}
 use Rattle.job.specs.Frames.{Parts, frame}
 

@@ -2,8 +2,8 @@ ghost use Rattle.std.specs.Prelude.{◌≡◌};
 ghost use Rattle.job.specs.declared.fault.Fault.TheVariants.{Description as of_description};
 ghost use Rattle.job.specs.Faults.{notice_of};
 
-use super::notice::Notice;
 use description::fault::Fault as Misdescription;
+use description::notice::Notice;
 use description::part::Part;
 
 // Why a job is refused.
@@ -15,6 +15,7 @@ pub enum Fault {
     Description(Misdescription),
 }
 
+// A conversion for each error, into a case of its own.
 impl From<Misdescription> for Fault {
     ghost from_gives = { λ e r. r ≡ of_description e };
 
@@ -33,11 +34,7 @@ impl Fault {
                 part: Part::Job,
                 place: bytes,
             },
-            Fault::Description(fault) => Notice {
-                number: fault.number(),
-                part: fault.part(),
-                place: fault.place(),
-            },
+            Fault::Description(fault) => fault.notice(),
         }
     }
 }

@@ -6,35 +6,36 @@ ghost use Rattle.job.specs.Frames.{frame, framed};
 ghost use Rattle.job.specs.Reports.{Reports, Only, settled, text};
 
 pub mod fault;
-pub mod frame;
-pub mod notice;
 pub mod report;
 
 use circuit::{number_at, sizes_at};
 use description::describe;
+use description::source::Source;
 use fault::Fault;
-use frame::Frame;
 use report::Report;
 use std::fmt;
 
-// How many variables the program's store has.
-const WIDTH: u8 = 24;
+// How many variables the store of a program has.
+pub const VARIABLES: u8 = 24;
+
+// The bytes of the longest job: the lengths, the circuit file with the most gates, and two longest texts.
+pub const LONGEST: u64 = 4 + (6 + 4 * 1024) + 2 * 512;
 
 // Cuts a job into the circuit file, the assumption and the property.
-pub fn split(job: &[u8]) -> Result<Frame, Fault>
+pub fn split(job: &[u8]) -> Result<Source, Fault>
     ensures { framed result ≡ frame job.now }
 {
     let wrong = Fault::Length(job.len());
     let (lengths, parts) = job.split_at_checked(4).ok_or(wrong)?;
     // The sizes take 6 bytes, and each gate 4.
-    let circuit_length = 6 + 4 * sizes_at(parts).gates as usize;
+    let circuit_length = 6 + 4 * usize::from(sizes_at(parts).gates);
     let (circuit, texts) = parts.split_at_checked(circuit_length).ok_or(wrong)?;
-    let assumption_length = number_at(lengths, 0) as usize;
+    let assumption_length = usize::from(number_at(lengths, 0));
     let (assumption, property) = texts.split_at_checked(assumption_length).ok_or(wrong)?;
-    if property.len() != number_at(lengths, 1) as usize {
+    if property.len() != usize::from(number_at(lengths, 1)) {
         return Err(wrong);
     }
-    Ok(Frame {
+    Ok(Source {
         circuit,
         assumption,
         property,
@@ -44,8 +45,8 @@ pub fn split(job: &[u8]) -> Result<Frame, Fault>
 fn read_job(job: &[u8]) -> Result<Report, Fault>
     ensures { Reports job.now (settled result) }
 {
-    let frame = split(job)?;
-    let described = describe(frame.circuit, frame.assumption, frame.property, WIDTH)?;
+    let source = split(job)?;
+    let described = describe(source, VARIABLES)?;
     Ok(Report::Read(described.circuit.sizes()))
 }
 

@@ -25,16 +25,16 @@ kept_all {k = p} g k = record {
 
 module _ (p : Part) (l : ℕ) {s t : Shown} (f : Fn) (a : ℕ) (bs : List Polarities) (r : Result ℕ Refusal) (mf : Means s a f) where
   -- n pairs are put for variables
-  puts : (first : ℕ) (x : ℕ → ℕ) (g : ℕ → Fn) (ps : List Polarities) (n : ℕ) → bs ≡ ps → length ps ≡ n → ((i : ℕ) → first + 2 * i ≡ x i) → Paired s ps g n
+  puts : (first : ℕ) (x : ℕ → ℕ) (g : ℕ → Fn) (ps : List Polarities) (n : ℕ) → bs ≡ ps → length ps ≡ n → ((i : ℕ) → i < n → first + 2 * i ≡ x i) → Paired s ps g n
       → ((i : ℕ) → i < n → x i < s.vars) → ComposesAll s a first bs r t → Gives plain s t (composed_all_list p l x g f n) (composed_all x g f n) r
   puts first x g ps n e d vs mp li y =
       subst (λ k. Gives plain s t (composed_all_list p l x g f k) (composed_all x g f k) r) d
-      (subst (λ xs. ComposesAll s a first xs r t) e y p l x f g vs mf (subst (λ k. Paired s ps g k) (sym d) mp) (λ i lt. li i (subst (λ k. i < k) d lt)))
+      (subst (λ xs. ComposesAll s a first xs r t) e y p l x f g (λ i lt. vs i (subst (λ k. i < k) d lt)) mf (subst (λ k. Paired s ps g k) (sym d) mp) (λ i lt. li i (subst (λ k. i < k) d lt)))
 
   module _ (k : Parts) (next : ℕ → Fn) (h : Fn) (keeps : Kept s k next h) where
     pub puts_copies : bs ≡ k.copies.items → ComposesAll s a 0 bs r t
         → Gives plain s t (composed_all_list p l register (λ i. bit (copy i)) f k.n) (composed_all register (λ i. bit (copy i)) f k.n) r
-    puts_copies e y = puts 0 register (λ i. bit (copy i)) k.copies.items k.n e k.copied (λ i. omega arith) keeps.copies (λ i lt. omega (arith, keeps.wide)) y
+    puts_copies e y = puts 0 register (λ i. bit (copy i)) k.copies.items k.n e k.copied (λ i lt. omega arith) keeps.copies (λ i lt. omega (arith, keeps.wide)) y
 
     pub puts_nexts : bs ≡ k.nexts.items → ComposesAll s a 1 bs r t → Gives plain s t (composed_all_list p l copy next f k.n) (composed_all copy next f k.n) r
-    puts_nexts e y = puts 1 copy next k.nexts.items k.n e k.led (λ i. omega arith) keeps.nexts (λ i lt. omega (arith, keeps.wide)) y
+    puts_nexts e y = puts 1 copy next k.nexts.items k.n e k.led (λ i lt. omega arith) keeps.nexts (λ i lt. omega (arith, keeps.wide)) y

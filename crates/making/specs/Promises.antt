@@ -25,6 +25,11 @@ use Rattle.making.specs.Loads.{first_list, start_list, load_list, back_list, Kep
 use Rattle.making.specs.Ends.{Ends, plain, located, Gives}
 use Rattle.making.specs.Stacks.{Standing, Acts}
 
+-- number a under either value of variable x
+abbrev pub Cofactors : Shown → ℕ → ℕ → Result (ℕ × ℕ) Refusal → Shown → Type 0
+Cofactors s a x r t = (p : Part) (l : ℕ) (f : Fn) → Means s a f → x < s.vars
+    → Ends plain s t (at p l (fix x false f ∷ fix x true f ∷ [])) (λ c. Means t c.0 (fix x false f) × Means t c.1 (fix x true f)) r
+
 -- number a with b put for variable x
 abbrev pub Composes : Shown → ℕ → ℕ → Polarities → Result ℕ Refusal → Shown → Type 0
 Composes s a x b r t = (p : Part) (l : ℕ) (f g : Fn) → Means s a f → Polar s b g → x < s.vars
@@ -32,7 +37,7 @@ Composes s a x b r t = (p : Part) (l : ℕ) (f g : Fn) → Means s a f → Polar
 
 -- that for the variables first + 2i, for each of the pairs
 abbrev pub ComposesAll : Shown → ℕ → ℕ → List Polarities → Result ℕ Refusal → Shown → Type 0
-ComposesAll s a first bs r t = (p : Part) (l : ℕ) (x : ℕ → ℕ) (f : Fn) (g : ℕ → Fn) → ((i : ℕ) → first + 2 * i ≡ x i)
+ComposesAll s a first bs r t = (p : Part) (l : ℕ) (x : ℕ → ℕ) (f : Fn) (g : ℕ → Fn) → ((i : ℕ) → i < length bs → first + 2 * i ≡ x i)
     → Means s a f → Paired s bs g (length bs) → ((i : ℕ) → i < length bs → x i < s.vars)
     → Gives plain s t (composed_all_list p l x g f (length bs)) (composed_all x g f (length bs)) r
 

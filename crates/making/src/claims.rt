@@ -26,6 +26,7 @@ fn pop(stack: &mut Stack) -> u16
 }
 
 // The number of an act's function. Its operands leave the stack. A match, and no closures: an act is data, read from a text.
+// The truth of a claim is found on a stack, too: one machine for both would take a trait of five acts, their laws over a store's states, and an error that a truth never has.
 fn act_on<S: Store>(
     store: &mut S,
     lines: &Lines,
@@ -36,7 +37,7 @@ fn act_on<S: Store>(
     ensures acts { ActsOn (S.Store.shows store.old) (alone (netlist lines.now.circuit.now)) act lines.now.numbers.items stack.old.items result stack.new.items (S.Store.shows store.new) }
 {
     match act {
-        Act::Constant(value) => Ok(value as u16),
+        Act::Constant(value) => Ok(u16::from(value)),
         Act::Name(sort, i) => Ok(lines.named(sort, i)),
         Act::Not => {
             let a = pop(stack);

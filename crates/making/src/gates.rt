@@ -1,10 +1,11 @@
 // The gates of a circuit.
-ghost use Rattle.std.specs.Prelude.{◌≡◌, ◌/◌, ◌<◌, length, OnOk};
+ghost use Rattle.std.specs.Prelude.{◌≡◌, length, OnOk};
 ghost use Rattle.circuit.specs.Netlists.{gate_line, lines};
 ghost use Rattle.circuit.specs.Reading.{netlist};
 ghost use Rattle.making.specs.Models.{alone};
 ghost use Rattle.making.specs.Promises.{Literally, GatesOne, GatesAll};
 
+use crate::FALSE;
 use crate::fault::Fault;
 use crate::lines::Numbers;
 use crate::places::place_at;
@@ -16,16 +17,13 @@ use store::refusal::Refusal;
 
 // The literal x over the lines' numbers.
 fn literal<S: Store>(store: &mut S, numbers: &[u16], x: u16) -> Result<u16, Refusal>
-    requires { x / 2 < length numbers.now }
     ensures { Literally (S.Store.shows store.old) numbers.now x result (S.Store.shows store.new) }
 {
-    let a = numbers[x as usize / 2];
+    let a = numbers.get(usize::from(x / 2)).copied().unwrap_or(FALSE);
     if x % 2 == 1 { store.not(a) } else { Ok(a) }
 }
 
 fn conjunction<S: Store>(store: &mut S, numbers: &[u16], gate: Gate) -> Result<u16, Refusal>
-    requires left { gate.left / 2 < length numbers.now }
-    requires right { gate.right / 2 < length numbers.now }
     ensures { GatesOne (S.Store.shows store.old) numbers.now gate result (S.Store.shows store.new) }
 {
     let a = literal(store, numbers, gate.left)?;

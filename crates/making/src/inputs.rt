@@ -2,6 +2,7 @@
 ghost use Rattle.std.specs.Prelude.{◌+◌, ◌<◌};
 ghost use Rattle.making.specs.Promises.{Halves, Quantifies};
 
+use crate::substitution::cofactors;
 use store::Store;
 use store::refusal::Refusal;
 
@@ -9,8 +10,7 @@ use store::refusal::Refusal;
 fn halves<S: Store>(store: &mut S, a: u16, x: u8) -> Result<u16, Refusal>
     ensures { Halves (S.Store.shows store.old) a x result (S.Store.shows store.new) }
 {
-    let low = store.cofactor(a, x, false)?;
-    let high = store.cofactor(a, x, true)?;
+    let (low, high) = cofactors(store, a, x)?;
     store.or(low, high)
 }
 

@@ -28,15 +28,15 @@ impl Lines<'_> {
     pub(crate) fn named(&self, sort: Sort, i: u16) -> u16
         ensures { result ≡ slice_index self.now.numbers.items (name_line (netlist self.now.circuit.now) sort i) }
     {
-        let registers = self.circuit.registers() as usize;
-        let inputs = self.circuit.inputs() as usize;
+        let registers = usize::from(self.circuit.registers());
+        let inputs = usize::from(self.circuit.inputs());
         let before = match sort {
             Sort::Register => 1,
             Sort::Input => 1 + registers,
             Sort::Gate => 1 + registers + inputs,
         };
         self.numbers
-            .get(before + i as usize)
+            .get(before + usize::from(i))
             .copied()
             .unwrap_or(FALSE)
     }
@@ -53,6 +53,6 @@ impl Lines<'_> {
         ensures { result.now ≡ slice_range self.now.numbers.items (next_line (netlist self.now.circuit.now) 0) (init_line (netlist self.now.circuit.now)) }
     {
         let end = self.numbers.len() - 1;
-        &self.numbers[end - self.circuit.registers() as usize..end]
+        &self.numbers[end - usize::from(self.circuit.registers())..end]
     }
 }

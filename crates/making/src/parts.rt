@@ -12,7 +12,7 @@ pub struct Polarities {
 // The numbers that an advance works with: of the registers' copies, the next values, the claims and Init.
 #[derive(Drop)]
 pub struct Parts {
-    // How many registers and inputs, in the type that variables are counted in, which the lists' length is not.
+    // How many registers and inputs. `copies` is as long as `n`, but its length is a usize: each reader counts variables by `n`, and would have to narrow it.
     pub n: u8,
     pub m: u8,
     pub copies: ArrayVec<Polarities, 8>,

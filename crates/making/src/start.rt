@@ -26,6 +26,7 @@ fn first_set<S: Store>(
     quantify(store, allowed, first_input, circuit.inputs())
 }
 
+// The two claims are two parameters: a struct of them would be taken apart here, since those who read `Parts` take each by itself.
 pub(crate) fn make_start<S: Store>(
     store: &mut S,
     lines: &Lines,

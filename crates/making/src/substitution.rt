@@ -1,10 +1,19 @@
 // Functions put for variables.
 ghost use Rattle.std.specs.Prelude.{◌+◌, ◌*◌, ◌<◌, length};
-ghost use Rattle.making.specs.Promises.{Composes, ComposesAll};
+ghost use Rattle.making.specs.Promises.{Cofactors, Composes, ComposesAll};
 
 use crate::parts::Polarities;
 use store::Store;
 use store::refusal::Refusal;
+
+// The function a with false put for variable x, and with true.
+pub(crate) fn cofactors<S: Store>(store: &mut S, a: u16, x: u8) -> Result<(u16, u16), Refusal>
+    ensures { Cofactors (S.Store.shows store.old) a x result (S.Store.shows store.new) }
+{
+    let low = store.cofactor(a, x, false)?;
+    let high = store.cofactor(a, x, true)?;
+    Ok((low, high))
+}
 
 // The function a with another put for variable x.
 pub(crate) fn compose<S: Store>(
@@ -15,8 +24,7 @@ pub(crate) fn compose<S: Store>(
 ) -> Result<u16, Refusal>
     ensures { Composes (S.Store.shows store.old) a x by result (S.Store.shows store.new) }
 {
-    let low = store.cofactor(a, x, false)?;
-    let high = store.cofactor(a, x, true)?;
+    let (low, high) = cofactors(store, a, x)?;
     let over = store.and(by.function, high)?;
     let under = store.and(by.negation, low)?;
     store.or(over, under)

@@ -1,15 +1,15 @@
 -- A list that holds each number below n once is a permutation of these.
 use Rattle.std.proofs.Common.{◌≡◌, ℕ, zero, suc, ◌+◌, ◌<◌, ◌≤◌, true, false, Bool, ◌&&◌, cond, eqb, ltb, List, [], ◌∷◌, ◌++◌, length, get_or, Decides, count_by, map, add-one, sym, refl, ap, ◌∙◌, subst, ⊎_elim, arith}
 use Rattle.std.specs.List.{range_with_len, list_all}
-use Rattle.std.proofs.lemmas.List.{map-id}
+use Rattle.std.proofs.lemmas.List.{map-id, get_or_default, get_or_past}
 use Rattle.std.proofs.Math.Bool.{and_comm, and-true}
 use Rattle.std.proofs.lemmas.List.FromFn.{map-range_with_len_more}
 use Rattle.std.proofs.lemmas.List.Folds.{list_all-append}
 use Rattle.std.proofs.lemmas.List.Sums.{sum_by-cons, count_by-le-length}
-use Rattle.std.proofs.lemmas.Bool.{cases_eq, eq-eqb, ne_eqb, lt-ltb, le-ltb, cases_lt, cases_Bool, not-true, and_from, and_left, and_right, cond-true, cond-false}
+use Rattle.std.proofs.lemmas.Bool.{cases_eq, eq-eqb, ne_eqb, lt-ltb, le-ltb, cases_lt, cases_Bool, not-true, and_from, and_parts, ltb-true, and_left, and_right, cond-true, cond-false}
 use Rattle.std.proofs.lemmas.Bool.Decides.{Decides-below_and, Decides-eqb, Decides-and, Decides-not, nat_tests}
 use Rattle.store.specs.Fun.{each}
-use Rattle.order.specs.Listing.{times, is_order, order_of}
+use Rattle.order.specs.Listing.{times, is_order, order_of, place, Fits}
 
 -- what the test tells
 pub is_order_tells : (n : ℕ) (xs : List ℕ) → Decides (is_order n xs) ((length xs ≡ n) × ((j : ℕ) → j < n → times j xs ≡ 1))
@@ -83,6 +83,24 @@ order_none n xs e i = cond-false _ (get_or xs i 0) i (and_left _ _ e)
 
 pub order_past : (n : ℕ) (xs : List ℕ) (i : ℕ) → n ≤ i → order_of n xs i ≡ i
 order_past n xs i h = cond-false _ (get_or xs i 0) i (and_right _ _ (le-ltb i n h))
+
+-- the empty list leaves each variable in its place
+pub order_empty : (n i : ℕ) → order_of n [] i ≡ i
+order_empty n i = cond-false _ 0 i (⊎_elim
+    (λ y. let q = and_parts (is_order n []) (ltb i n) y in absurd (omega (arith, ((is_order_tells n []).0 q.0).0, ltb-true i n q.1)))
+    (λ z. z)
+    (cases_Bool (is_order n [] && ltb i n)))
+
+-- the places of an order of all variables, or of none, are the order of these variables that it gives
+pub place_is : (n : ℕ) (xs : List ℕ) → is_order (length xs) xs ≡ true → Fits n xs → (i : ℕ) → place xs i ≡ order_of n xs i
+place_is n [] o f i = sym (order_empty n i)
+place_is n (x ∷ xs) o f i =
+    let ys = x ∷ xs in
+    let l : length ys ≡ n = f (omega arith) in
+    ⊎_elim
+    (λ h. get_or_default ys i i 0 (omega arith) ∙ sym (order_there n ys i (subst (λ k. is_order k ys ≡ true) l o) h))
+    (λ h. get_or_past ys i i (omega arith) ∙ sym (order_past n ys i h))
+    (cases_lt i n)
 
 -- how many entries are below n
 abbrev small : ℕ → List ℕ → ℕ

@@ -2,7 +2,7 @@
 #![tactic(auto)]
 
 ghost use Rattle.std.specs.Prelude.{◌≡◌};
-ghost use Rattle.order.specs.Listing.{is_order, order_of, verdict};
+ghost use Rattle.order.specs.Listing.{is_order, order_of, verdict, Fits};
 ghost use Rattle.order.specs.Renaming.{ordered};
 ghost use Rattle.order.specs.Facts.{Reorders};
 
@@ -14,10 +14,12 @@ use store::figures::Figures;
 use store::refusal::{Refusal, Unfit};
 use store::task::Task;
 
+// The order is of all variables of the store, or of none: that one renames nothing.
 #[derive(Drop)]
-pub struct Layer<S> {
+pub struct Layer<S: Store> {
     store: S,
     order: Order,
+    ghost fits: { Fits (S.Store.shows store).vars order.places.items },
 }
 
 // Whether the list holds each variable of the store once.
@@ -48,13 +50,11 @@ impl<S: Store> Store for Layer<S> {
     ghost shows = { λ l. ordered l.order.places.items (S.Store.shows l.store) };
 
     fn answer(&mut self, task: Task) -> Result<u16, Refusal> {
-        let n = self.store.figures().variables;
-        self.store.answer(self.order.task_below(n, task))
+        self.store.answer(self.order.task_below(task))
     }
 
     fn value(&mut self, a: u16, w: u32) -> Result<bool, Refusal> {
-        let n = self.store.figures().variables;
-        self.store.value(a, self.order.valuation_below(n, w))
+        self.store.value(a, self.order.valuation_below(w))
     }
 
     fn figures(&mut self) -> Figures {

@@ -1,16 +1,19 @@
 // The order of a layer's variables, in a fixed array.
 ghost use Rattle.std.specs.Prelude.{◌≡◌, ◌≤◌, true, false, [], length, MatchOption};
-ghost use Rattle.order.specs.Listing.{times, is_order, order_of};
+ghost use Rattle.order.specs.Listing.{times, is_order, place};
 ghost use Rattle.order.specs.Renaming.{placed, task_below};
 
 use arrayvec::ArrayVec;
 use store::bits::{bit, with_bit};
 use store::task::Task;
 
+// The most variables of a store.
+const MOST: usize = 24;
+
 // The places hold each number below their count once.
 #[derive(Drop)]
 pub(super) struct Order {
-    places: ArrayVec<u8, 24>,
+    places: ArrayVec<u8, MOST>,
     ghost once: { is_order (length places.items) places.items ≡ true },
 }
 
@@ -42,7 +45,7 @@ impl Default for Order {
 impl Order {
     // The list as an order of n variables.
     pub(super) fn of(n: u8, p: &[u8]) -> Option<Order>
-        requires { n ≤ 24 }
+        requires { n ≤ MOST }
         ensures { MatchOption result (is_order n p.now ≡ false) (λ o. (is_order n p.now ≡ true) × (o.places.items ≡ p.now)) }
     {
         if !is_order(n, p) {
@@ -52,32 +55,30 @@ impl Order {
         Some(Order { places })
     }
 
-    // The variable below for variable i, of n.
-    pub(super) fn variable_below(&self, n: u8, i: u8) -> u8
-        ensures { result ≡ order_of n self.now.places.items i }
+    // The variable below for variable i, and i itself past the places.
+    pub(super) fn variable_below(&self, i: u8) -> u8
+        ensures { result ≡ place self.now.places.items i }
     {
-        if self.places.len() != usize::from(n) {
-            return i;
-        }
         self.places.get(usize::from(i)).copied().unwrap_or(i)
     }
 
-    // The task below, of n variables: its variable is the one below.
-    pub(super) fn task_below(&self, n: u8, task: Task) -> Task
-        ensures { result ≡ task_below (order_of n self.now.places.items) task }
+    // The task below: its variable is the one below.
+    pub(super) fn task_below(&self, task: Task) -> Task
+        ensures { result ≡ task_below (place self.now.places.items) task }
     {
         match task {
-            Task::Variable(i) => Task::Variable(self.variable_below(n, i)),
-            Task::Cofactor(a, i, t) => Task::Cofactor(a, self.variable_below(n, i), t),
+            Task::Variable(i) => Task::Variable(self.variable_below(i)),
+            Task::Cofactor(a, i, t) => Task::Cofactor(a, self.variable_below(i), t),
             Task::Not(_) | Task::Both(_, _, _) => task,
         }
     }
 
-    // The valuation below for w, of n variables.
-    pub(super) fn valuation_below(&self, n: u8, w: u32) -> u32
-        requires { n ≤ 24 }
-        ensures { result ≡ placed (order_of n self.now.places.items) n w }
+    // The valuation below for w.
+    pub(super) fn valuation_below(&self, w: u32) -> u32
+        ensures { result ≡ placed (place self.now.places.items) (length self.now.places.items) w }
     {
-        (0..n).fold(w, |v, i| with_bit(v, self.variable_below(n, i), bit(w, i)))
+        (0..MOST as u8)
+            .zip(self.places.as_slice())
+            .fold(w, |v, (i, place)| with_bit(v, *place, bit(w, i)))
     }
 }

@@ -17,10 +17,9 @@ pub fn fit<T>(n: u8, most: u8, records: &[T]) -> Result<(), Unfit>
 
 // n and the records, where a store can be made of them; else 1 variable and no records, of which one always can.
 pub fn fitted<T>(n: u8, most: u8, records: &mut [T]) -> (u8, &mut [T])
-    requires { 1 ≤ most }
     ensures variables { result.0 ≡ (if fits n most (length records.old) then n else 1) }
     ensures records { length result.1.now ≡ (if fits n most (length records.old) then length records.old else 0) }
-    ensures fit { fits result.0 most (length result.1.now) ≡ true }
+    ensures fit { 1 ≤ most → fits result.0 most (length result.1.now) ≡ true }
 {
     if fit(n, most, records).is_ok() {
         (n, records)

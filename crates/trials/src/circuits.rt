@@ -1,65 +1,53 @@
 // Circuit files at each bound of each check.
 use circuit::read;
 use circuit::refusal::{Refusal, Size};
+use circuit::sizes::Sizes;
 use std::alloc::{AllocError, Global};
 use std::test::Fail;
 
-// What is told of a file: its sizes, or why it is refused.
-fn read_sizes(file: &[u8], width: u8) -> Result<(u8, u8, usize), Refusal> {
-    let circuit = read(file, width)?;
-    Ok((circuit.registers(), circuit.inputs(), circuit.gates().len()))
+fn sizes(registers: u16, inputs: u16, gates: u16) -> Sizes {
+    Sizes {
+        registers,
+        inputs,
+        gates,
+    }
 }
 
-fn push(file: &mut Vec<u8>, number: u16) -> Result<(), AllocError> {
-    file.push((number & 255) as u8)?;
-    file.push((number >> 8) as u8)?;
-    Ok(())
+// What is told of a file: its sizes, or why it is refused.
+fn read_sizes(file: &[u8], width: u8) -> Result<Sizes, Refusal> {
+    Ok(read(file, width)?.sizes())
+}
+
+// A file of these sizes and literals.
+fn file_of(heap: Global, sizes: Sizes, literals: &[u16]) -> Result<Vec<u8>, AllocError> {
+    let mut file = Vec::new(heap);
+    let numbers = [sizes.registers, sizes.inputs, sizes.gates];
+    for number in numbers.iter().chain(literals) {
+        file.extend_from_slice(&number.to_le_bytes())?;
+    }
+    Ok(file)
 }
 
 // A file of these sizes with `gates` gates, each the and of line 0 with itself.
-fn plain(heap: Global, sizes: [u16; 3], gates: u16) -> Result<Vec<u8>, AllocError> {
-    let mut file = Vec::new(heap);
-    push(&mut file, sizes[0])?;
-    push(&mut file, sizes[1])?;
-    push(&mut file, sizes[2])?;
-    for _ in 0..gates {
-        push(&mut file, 0)?;
-        push(&mut file, 0)?;
-    }
-    Ok(file)
-}
-
-// A file of the literals given.
-fn wired(
-    heap: Global,
-    registers: u16,
-    inputs: u16,
-    literals: &[u16],
-) -> Result<Vec<u8>, AllocError> {
-    let mut file = Vec::new(heap);
-    push(&mut file, registers)?;
-    push(&mut file, inputs)?;
-    push(&mut file, (literals.len() / 2 & 65535) as u16)?;
-    for literal in literals {
-        push(&mut file, *literal)?;
-    }
-    Ok(file)
+fn plain(heap: Global, sizes: Sizes, gates: u16) -> Result<Vec<u8>, AllocError> {
+    let literals = vec![in heap; 0; 2 * usize::from(gates)]?;
+    file_of(heap, sizes, &literals)
 }
 
 #[test]
 fn sizes_are_bounded(rt: HostRuntime) -> Result<(), Fail> {
     let table = [
-        ([0, 0, 1], 1, Err(Refusal::Size(Size::Registers))),
-        ([1, 0, 2], 2, Ok((1, 0, 2))),
-        ([8, 8, 9], 9, Ok((8, 8, 9))),
-        ([9, 0, 10], 10, Err(Refusal::Size(Size::Registers))),
-        ([8, 9, 9], 9, Err(Refusal::Size(Size::Inputs))),
-        ([2, 0, 2], 2, Err(Refusal::Size(Size::Gates))),
-        ([2, 0, 3], 3, Ok((2, 0, 3))),
-        ([2, 0, 1024], 1024, Ok((2, 0, 1024))),
-        ([2, 0, 1025], 1025, Err(Refusal::Size(Size::Gates))),
+        (sizes(0, 0, 1), 1, Err(Refusal::Size(Size::Registers))),
+        (sizes(1, 0, 2), 2, Ok(sizes(1, 0, 2))),
+        (sizes(8, 8, 9), 9, Ok(sizes(8, 8, 9))),
+        (sizes(9, 0, 10), 10, Err(Refusal::Size(Size::Registers))),
+        (sizes(8, 9, 9), 9, Err(Refusal::Size(Size::Inputs))),
+        (sizes(2, 0, 2), 2, Err(Refusal::Size(Size::Gates))),
+        (sizes(2, 0, 3), 3, Ok(sizes(2, 0, 3))),
+        (sizes(2, 0, 1024), 1024, Ok(sizes(2, 0, 1024))),
+        (sizes(2, 0, 1025), 1025, Err(Refusal::Size(Size::Gates))),
         (
-            [65535, 65535, 65535],
+            sizes(65535, 65535, 65535),
             0,
             Err(Refusal::Size(Size::Registers)),
         ),
@@ -79,9 +67,14 @@ fn lengths_and_widths(rt: HostRuntime) -> Result<(), Fail> {
         read_sizes(&[1, 0, 0, 0, 2, 0], 24),
         Err(Refusal::Length(6))
     );
-    let mut file = plain(rt.alloc(), [3, 2, 4], 4)?;
+    let mut file = plain(rt.alloc(), sizes(3, 2, 4), 4)?;
     assert_eq!(rt; read_sizes(&file, 7), Err(Refusal::Width(8)));
-    assert_eq!(rt; read_sizes(&file, 8), Ok((3, 2, 4)));
+    assert_eq!(rt; read_sizes(&file, 8), Ok(sizes(3, 2, 4)));
+    let circuit = read(&file, 8)?;
+    assert_eq!(rt;
+        (circuit.registers(), circuit.inputs(), circuit.gates().len()),
+        (3, 2, 4)
+    );
     file.push(0)?;
     assert_eq!(rt; read_sizes(&file, 0), Err(Refusal::Length(23)));
     file.truncate(21);
@@ -92,8 +85,9 @@ fn lengths_and_widths(rt: HostRuntime) -> Result<(), Fail> {
 #[test]
 fn wires_and_start(rt: HostRuntime) -> Result<(), Fail> {
     // One register, one input, gates on lines 3 to 5: the left literals, then the right ones.
+    let sizes = sizes(1, 1, 3);
     let table: [([u16; 6], _); 9] = [
-        ([4, 4, 2, 5, 2, 3], Ok((1, 1, 3))),
+        ([4, 4, 2, 5, 2, 3], Ok(sizes)),
         ([6, 0, 0, 0, 0, 0], Err(Refusal::Wire(0))),
         ([0, 0, 0, 7, 0, 0], Err(Refusal::Wire(0))),
         ([0, 0, 10, 0, 0, 0], Err(Refusal::Wire(2))),
@@ -101,10 +95,10 @@ fn wires_and_start(rt: HostRuntime) -> Result<(), Fail> {
         ([0, 8, 10, 0, 0, 0], Err(Refusal::Wire(1))),
         ([0, 0, 4, 0, 0, 0], Err(Refusal::Start(2))),
         ([5, 7, 0, 0, 0, 9], Err(Refusal::Start(2))),
-        ([5, 2, 2, 0, 3, 8], Ok((1, 1, 3))),
+        ([5, 2, 2, 0, 3, 8], Ok(sizes)),
     ];
     for (literals, told) in table {
-        let file = wired(rt.alloc(), 1, 1, &literals)?;
+        let file = file_of(rt.alloc(), sizes, &literals)?;
         assert_eq!(rt; read_sizes(&file, 24), told);
     }
     Ok(())

@@ -1,5 +1,4 @@
 // Stores of 65,534 records, filled to the last one.
-use super::stores::TRUTHS;
 use diagram::Diagram;
 use diagram::making::check as check_diagram;
 use nodes::Node;
@@ -9,6 +8,7 @@ use std::test::Fail;
 use store::Store;
 use store::refusal::{Refusal, Unfit};
 use table::Table;
+use table::truths::Truths;
 
 const MOST: usize = 65534;
 
@@ -77,7 +77,7 @@ fn cells<S: Store>(store: &mut S, heap: Global) -> Result<Vec<u16>, Fail> {
 // Every function of 4 variables, as a union of cells: with the constants they are all 65,536 numbers.
 #[test]
 fn full_table(rt: HostRuntime) -> Result<(), Fail> {
-    let mut records = vec![in rt.alloc(); TRUTHS; MOST]?;
+    let mut records = vec![in rt.alloc(); Truths::default(); MOST]?;
     let mut store = Table::new(4, &mut records);
     let cells = cells(&mut store, rt.alloc())?;
     let mut unions = Vec::new(rt.alloc());

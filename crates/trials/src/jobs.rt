@@ -3,6 +3,8 @@ use circuit::refusal::{Refusal, Size};
 use circuit::sizes::Sizes;
 use claim::fault::Fault as Misreading;
 use description::fault::Fault as Misdescription;
+use description::notice::Notice;
+use description::part::Part;
 use job::check as report_on;
 use job::fault::Fault;
 use job::report::Report;
@@ -57,15 +59,23 @@ fn frames(rt: HostRuntime) {
     );
 }
 
-// The number, the part's number and the place.
-fn told(fault: Fault) -> (u8, u8, usize) {
-    let notice = fault.notice();
-    (notice.number, notice.part.number(), notice.place)
-}
-
 #[test]
-fn numbers(rt: HostRuntime) {
+fn notices(rt: HostRuntime) {
     let fault = Fault::Description(Misdescription::Circuit(Refusal::Start(7)));
-    assert_eq!(rt; told(fault), (6, 1, 7));
-    assert_eq!(rt; told(Fault::Length(9)), (2, 0, 9));
+    assert_eq!(rt;
+        fault.notice(),
+        Notice {
+            number: 6,
+            part: Part::Circuit,
+            place: 7,
+        }
+    );
+    assert_eq!(rt;
+        Fault::Length(9).notice(),
+        Notice {
+            number: 2,
+            part: Part::Job,
+            place: 9,
+        }
+    );
 }

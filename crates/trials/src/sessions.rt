@@ -1,25 +1,23 @@
 // Sessions over every make of store and layers over them.
-use super::stores::TRUTHS;
+use decide::search::settle;
+use description::notice::Notice;
+use description::part::Part;
+use description::source::Source;
 use diagram::Diagram;
 use engine::session::Session;
+use engine::step::Step;
 use making::fault::Fault;
 use nodes::Node;
 use order::Layer;
+use std::array;
 use std::process::Abort;
 use std::test::Fail;
 use store::Store;
 use table::Table;
+use table::truths::Truths;
 use uses::verdict::Verdict;
 
 const ORDER: [u8; 10] = [9, 3, 0, 7, 1, 8, 2, 6, 5, 4];
-
-// A circuit file and its two texts.
-#[derive(Clone, Copy)]
-struct Case<'a> {
-    file: &'a [u8],
-    assumption: &'a [u8],
-    property: &'a [u8],
-}
 
 // One register that takes over the input.
 const FOLLOW: [u8; 14] = [1, 0, 1, 0, 2, 0, 4, 0, 3, 0, 4, 0, 3, 0];
@@ -30,177 +28,191 @@ const SWAP: [u8; 18] = [2, 0, 0, 0, 3, 0, 4, 0, 2, 0, 2, 0, 4, 0, 2, 0, 5, 0];
 // Two registers: the first takes over the input, and the second the first.
 const DELAY: [u8; 18] = [2, 0, 1, 0, 3, 0, 6, 0, 2, 0, 3, 0, 6, 0, 2, 0, 5, 0];
 
-// What is told of a search: the verdict, how many advances, the trace, and a bit for each state inside.
-#[derive(Clone, Copy, PartialEq, Eq, Debug)]
-struct Told {
-    verdict: Verdict,
-    advances: u16,
-    states: [u16; 4],
-    inputs: [u16; 4],
-    inside: u16,
-}
-
-fn settle<S: Store>(session: &mut Session<S>, case: Case) -> Result<(Verdict, u16), Fault> {
-    let mut verdict = session.load(case.file, case.assumption, case.property)?;
-    for advances in 0..4 {
-        match verdict {
-            Verdict::Open => verdict = session.advance()?,
-            _ => return Ok((verdict, advances)),
-        }
+// The circuit `FOLLOW` with these claims.
+fn follow<'a>(assumption: &'a [u8], property: &'a [u8]) -> Source<'a> {
+    Source {
+        circuit: &FOLLOW,
+        assumption,
+        property,
     }
-    Ok((verdict, 4))
 }
 
-fn search<S: Store + Drop>(store: S, case: Case) -> Result<Told, Fault> {
+// What is told of a search: how many advances, and the depth and the trace, or a bit for each state inside.
+#[derive(Clone, Copy, PartialEq, Eq, Debug)]
+enum Told {
+    Unsafe {
+        advances: u16,
+        depth: u16,
+        steps: [Step; 4],
+    },
+    Safe {
+        advances: u16,
+        inside: u16,
+    },
+}
+
+// What a trace leaves past its end.
+const UNWRITTEN: Step = Step { state: 7, input: 7 };
+
+fn step(state: u16, input: u16) -> Step {
+    Step { state, input }
+}
+
+// The steps of the trace, as they lie in two longer arrays.
+fn steps<S: Store>(session: &mut Session<S>) -> Result<[Step; 4], Fault> {
+    let mut states = [UNWRITTEN.state; 4];
+    let mut inputs = [UNWRITTEN.input; 4];
+    session.trace(&mut states, &mut inputs)?;
+    Ok(array::from_fn(|t| step(states[t], inputs[t])))
+}
+
+fn search<S: Store + Drop>(store: S, source: Source) -> Result<Told, Fault> {
     let mut session = Session::new(store);
-    let (verdict, advances) = settle(&mut session, case)?;
-    let mut states = [7; 4];
-    let mut inputs = [7; 4];
-    let mut inside = 0;
-    match verdict {
-        Verdict::Unsafe(_) => {
-            session.trace(&mut states, &mut inputs)?;
+    let first = session.load(source)?;
+    let advances = settle(&mut session, first)?;
+    match session.verdict() {
+        Verdict::Unsafe(depth) => {
+            let steps = steps(&mut session)?;
+            Ok(Told::Unsafe {
+                advances,
+                depth,
+                steps,
+            })
         }
         Verdict::Safe => {
+            let mut inside = 0;
             for q in 0..4 {
                 inside |= u16::from(session.inside(q).unwrap_or(false)) << q;
             }
+            Ok(Told::Safe { advances, inside })
         }
-        _ => {}
+        // A settled search has neither verdict.
+        Verdict::Empty | Verdict::Open => Err(Fault::Verdict),
     }
-    Ok(Told {
-        verdict,
-        advances,
-        states,
-        inputs,
-        inside,
-    })
 }
 
 // Whether a search in each store comes to this.
-fn agree(rt: &impl Abort, case: Case, told: Told) -> Result<(), Fail> {
+fn agree(rt: &impl Abort, source: Source, told: Told) -> Result<(), Fail> {
     let mut nodes = [Node::default(); 300];
-    let mut tables = [TRUTHS; 100];
-    assert_eq!(rt; search(Diagram::new(10, &mut nodes), case)?, told);
-    assert_eq!(rt; search(Table::new(10, &mut tables), case)?, told);
+    let mut tables = [Truths::default(); 100];
+    assert_eq!(rt; search(Diagram::new(10, &mut nodes), source)?, told);
+    assert_eq!(rt; search(Table::new(10, &mut tables), source)?, told);
     assert_eq!(rt;
-        search(Layer::new(Diagram::new(10, &mut nodes), &ORDER), case)?,
+        search(Layer::new(Diagram::new(10, &mut nodes), &ORDER), source)?,
         told
     );
     assert_eq!(rt;
-        search(Layer::new(Table::new(10, &mut tables), &ORDER), case)?,
+        search(Layer::new(Table::new(10, &mut tables), &ORDER), source)?,
         told
     );
     Ok(())
 }
 
-fn unsafe_at(depth: u16, states: [u16; 4], inputs: [u16; 4]) -> Told {
-    Told {
-        verdict: Verdict::Unsafe(depth),
+fn unsafe_at(depth: u16, steps: [Step; 4]) -> Told {
+    Told::Unsafe {
         advances: depth,
-        states,
-        inputs,
-        inside: 0,
-    }
-}
-
-fn safe_at(advances: u16, inside: u16) -> Told {
-    Told {
-        verdict: Verdict::Safe,
-        advances,
-        states: [7; 4],
-        inputs: [7; 4],
-        inside,
+        depth,
+        steps,
     }
 }
 
 #[test]
 fn stores_agree(rt: HostRuntime) -> Result<(), Fail> {
-    let case = Case {
-        file: &FOLLOW,
-        assumption: b"1",
-        property: b"!s0",
-    };
-    agree(&rt, case, unsafe_at(1, [0, 1, 7, 7], [1, 0, 7, 7]))?;
     agree(
         &rt,
-        Case {
-            assumption: b"!v0",
-            ..case
-        },
-        safe_at(1, 1),
+        follow(b"1", b"!s0"),
+        unsafe_at(1, [step(0, 1), step(1, 0), UNWRITTEN, UNWRITTEN]),
     )?;
     agree(
         &rt,
-        Case {
-            property: b"s0",
-            ..case
+        follow(b"!v0", b"!s0"),
+        Told::Safe {
+            advances: 1,
+            inside: 1,
         },
-        unsafe_at(0, [0, 7, 7, 7], [0, 7, 7, 7]),
     )?;
-    let case = Case {
-        file: &SWAP,
+    agree(
+        &rt,
+        follow(b"1", b"s0"),
+        unsafe_at(0, [step(0, 0), UNWRITTEN, UNWRITTEN, UNWRITTEN]),
+    )?;
+    let source = Source {
+        circuit: &SWAP,
         assumption: b"1",
         property: b"!s0 | !s1",
     };
-    agree(&rt, case, safe_at(1, 7))?;
-    let case = Case {
-        file: &DELAY,
+    agree(
+        &rt,
+        source,
+        Told::Safe {
+            advances: 1,
+            inside: 7,
+        },
+    )?;
+    let source = Source {
+        circuit: &DELAY,
         assumption: b"1",
         property: b"!s1",
     };
-    agree(&rt, case, unsafe_at(2, [0, 1, 2, 7], [1, 0, 0, 7]))
+    agree(
+        &rt,
+        source,
+        unsafe_at(2, [step(0, 1), step(1, 0), step(2, 0), UNWRITTEN]),
+    )
 }
 
-// The number, the part and the place of what a search is refused for.
-fn refusal<S: Store + Drop>(store: S, case: Case) -> Option<(u8, u8, usize)> {
-    let fault = search(store, case).err()?;
-    Some((fault.number(), fault.part().number(), fault.place()))
+// What is told of the fault that a search is refused for.
+fn refusal<S: Store + Drop>(store: S, source: Source) -> Option<Notice> {
+    search(store, source).err().map(Fault::notice)
 }
 
 // Each function that is new takes one of the table's records, so that each of them is refused in its turn.
 #[test]
 fn room_in_every_part(rt: HostRuntime) -> Result<(), Fail> {
-    let case = Case {
-        file: &DELAY,
+    let source = Source {
+        circuit: &DELAY,
         assumption: b"s0 | v0",
         property: b"!(s1 & v0)",
     };
     let places = [
-        (1, 0),
-        (1, 0),
-        (1, 0),
-        (1, 0),
-        (1, 0),
-        (1, 2),
-        (1, 2),
-        (1, 2),
-        (2, 3),
-        (3, 5),
-        (3, 0),
-        (4, 0),
-        (4, 0),
-        (4, 0),
-        (4, 0),
-        (4, 0),
-        (4, 0),
-        (4, 0),
-        (4, 0),
-        (4, 1),
-        (4, 1),
-        (4, 1),
-        (4, 1),
-        (4, 1),
+        (Part::Circuit, 0),
+        (Part::Circuit, 0),
+        (Part::Circuit, 0),
+        (Part::Circuit, 0),
+        (Part::Circuit, 0),
+        (Part::Circuit, 2),
+        (Part::Circuit, 2),
+        (Part::Circuit, 2),
+        (Part::Assumption, 3),
+        (Part::Property, 5),
+        (Part::Property, 0),
+        (Part::Sets, 0),
+        (Part::Sets, 0),
+        (Part::Sets, 0),
+        (Part::Sets, 0),
+        (Part::Sets, 0),
+        (Part::Sets, 0),
+        (Part::Sets, 0),
+        (Part::Sets, 0),
+        (Part::Sets, 1),
+        (Part::Sets, 1),
+        (Part::Sets, 1),
+        (Part::Sets, 1),
+        (Part::Sets, 1),
     ];
-    for (records, (part, place)) in places.iter().enumerate() {
-        let mut tables = vec![in rt.alloc(); TRUTHS; records]?;
+    for (records, &(part, place)) in places.iter().enumerate() {
+        let mut tables = vec![in rt.alloc(); Truths::default(); records]?;
         assert_eq!(rt;
-            refusal(Table::new(10, &mut tables), case),
-            Some((10, *part, *place))
+            refusal(Table::new(10, &mut tables), source),
+            Some(Notice {
+                number: 10,
+                part,
+                place,
+            })
         );
     }
-    let mut tables = [TRUTHS; 24];
-    assert_eq!(rt; refusal(Table::new(10, &mut tables), case), None);
+    let mut tables = [Truths::default(); 24];
+    assert_eq!(rt; refusal(Table::new(10, &mut tables), source), None);
     Ok(())
 }
 
@@ -213,8 +225,8 @@ fn calls<S: Store + Drop>(rt: &impl Abort, store: S) {
     assert_eq!(rt; session.advance(), Err(Fault::Empty));
     assert_eq!(rt; session.trace(&mut states, &mut inputs), Err(Fault::Empty));
     assert_eq!(rt; session.inside(0), Err(Fault::Empty));
-    assert_eq!(rt; session.load(&FOLLOW, b"1", b"!s0"), Ok(Verdict::Open));
-    assert_eq!(rt; session.load(&FOLLOW, b"", b""), Err(Fault::Loaded));
+    assert_eq!(rt; session.load(follow(b"1", b"!s0")), Ok(Verdict::Open));
+    assert_eq!(rt; session.load(follow(b"", b"")), Err(Fault::Loaded));
     assert_eq!(rt;
         session.trace(&mut states, &mut inputs),
         Err(Fault::Verdict)
@@ -232,7 +244,7 @@ fn calls<S: Store + Drop>(rt: &impl Abort, store: S) {
 
 fn safe_calls<S: Store + Drop>(rt: &impl Abort, store: S) {
     let mut session = Session::new(store);
-    assert_eq!(rt; session.load(&FOLLOW, b"!v0", b"!s0"), Ok(Verdict::Open));
+    assert_eq!(rt; session.load(follow(b"!v0", b"!s0")), Ok(Verdict::Open));
     assert_eq!(rt; session.advance(), Ok(Verdict::Safe));
     assert_eq!(rt; session.inside(0), Ok(true));
     assert_eq!(rt; session.inside(1), Ok(false));
@@ -242,7 +254,7 @@ fn safe_calls<S: Store + Drop>(rt: &impl Abort, store: S) {
 #[test]
 fn calls_out_of_turn(rt: HostRuntime) {
     let mut nodes = [Node::default(); 100];
-    let mut tables = [TRUTHS; 50];
+    let mut tables = [Truths::default(); 50];
     calls(&rt, Diagram::new(3, &mut nodes));
     calls(&rt, Table::new(3, &mut tables));
     safe_calls(&rt, Diagram::new(3, &mut nodes));

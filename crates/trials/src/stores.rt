@@ -12,8 +12,6 @@ use store::refusal::{Refusal, Unfit};
 use table::truths::Truths;
 use table::{Table, check as check_table};
 
-pub(super) const TRUTHS: Truths = Truths { bytes: [0; 128] };
-
 const ORDER: [u8; 4] = [2, 0, 3, 1];
 
 const STEPS: usize = 96;
@@ -72,7 +70,7 @@ fn layer<S: Store>(store: S) -> Layer<S> {
 fn makes_agree(rt: HostRuntime) -> Result<(), Fail> {
     let heap = rt.alloc();
     let mut nodes = [Node::default(); 300];
-    let mut tables = [TRUTHS; 100];
+    let mut tables = [Truths::default(); 100];
     let told = driven(Diagram::new(4, &mut nodes), heap)?;
     assert_eq!(rt; told.get(2).copied(), Some(0xf0f0));
     assert_eq!(rt; driven(Table::new(4, &mut tables), heap)?, told);

@@ -1,6 +1,6 @@
 use Rattle.std.proofs.Common.{sym, subst}
 use Rattle.decide.specs.declared.fault.Fault.TheVariants.{Frame as Unframed, Call}
-use Rattle.job.specs.declared.frame.Frame.{Frame}
+use Rattle.description.specs.declared.source.Source.{Source}
 use Rattle.job.specs.Frames.{Parts}
 use Rattle.engine.specs.Keeping.{world}
 use Rattle.decide.specs.Reports.{unframed}
@@ -9,13 +9,13 @@ use Rattle.decide.proofs.Sessions.{loaded_by, answered_by, decided}
 use Rattle.decide.proofs.Right.{sizes_are, few_registers, refuses, not_begun, not_settled, concluded}
 use Rattle.decide.proofs.run.Goals as goal
 
-abbrev parts : Frame → Parts
-parts f = record { circuit = f.circuit.now; assumption = f.assumption.now; property = f.property.now }
+abbrev parts : Source → Parts
+parts s = record { circuit = s.circuit.now; assumption = s.assumption.now; property = s.property.now }
 
-pub returns-in_err-frame : goal.returns-in_err-frame
-returns-in_err-frame g c =
-    refuses (g.S.Store.shows c.args.store) c.args.job.now c.from_residual.result (Unframed c.in_err-frame.field-0.0) c.from_residual.ensures.1
-    (unframed (sym c.in_err-frame.ensures))
+pub returns-in_err-source : goal.returns-in_err-source
+returns-in_err-source g c =
+    refuses (g.S.Store.shows c.args.store) c.args.job.now c.from_residual.result (Unframed c.in_err-source.field-0.0) c.from_residual.ensures.1
+    (unframed (sym c.in_err-source.ensures))
 
 pub returns-in_err-first : goal.returns-in_err-first
 returns-in_err-first g c =
@@ -23,7 +23,7 @@ returns-in_err-first g c =
     let n = c.new-session.ensures in
     let b = loaded_by s (world g.S.Store.shows c.new-session.result) (world g.S.Store.shows c.load.new.self) n.store n.begun n.keeps c.in_err-first.ensures.next in
     refuses s c.args.job.now c.from_residual-in_err-first.result (Call c.in_err-first.field-0.0) c.from_residual-in_err-first.ensures.1
-    (not_begun s c.args.job.now (parts c.in_ok-frame.frame) (sym c.in_ok-frame.ensures) c.in_err-first.field-0.0 b)
+    (not_begun s c.args.job.now (parts c.in_ok-source.source) (sym c.in_ok-source.ensures) c.in_err-first.field-0.0 b)
 
 pub returns-in_err-depth : goal.returns-in_err-depth
 returns-in_err-depth g c =
@@ -31,7 +31,7 @@ returns-in_err-depth g c =
     let n = c.new-session.ensures in
     let b = loaded_by s (world g.S.Store.shows c.new-session.result) (world g.S.Store.shows c.load.new.self) n.store n.begun n.keeps c.in_ok-first.ensures.next in
     refuses s c.args.job.now c.from_residual-in_err-depth.result (Call c.in_err-depth.field-0.0) c.from_residual-in_err-depth.ensures.1
-    (not_settled s c.args.job.now (parts c.in_ok-frame.frame) (sym c.in_ok-frame.ensures) b.model b.describes c.in_err-depth.field-0.0
+    (not_settled s c.args.job.now (parts c.in_ok-source.source) (sym c.in_ok-source.ensures) b.model b.describes c.in_err-depth.field-0.0
     (c.in_err-depth.ensures.settles s b.model b.come b.told_is))
 
 pub conclude-requires : goal.conclude-requires
@@ -42,7 +42,7 @@ conclude-requires g c =
     let e = c.in_ok-depth.ensures.settles s b.model b.come b.told_is in
     let a = answered_by s b.model c.in_ok-depth.depth (world g.S.Store.shows c.settle.new.session) _ e.come c.verdict-verdict.ensures.next in
     record {
-      few = few_registers s.vars c.in_ok-frame.frame.circuit.now b.model.circuit b.describes.circuit;
+      few = few_registers s.vars c.in_ok-source.source.circuit.now b.model.circuit b.describes.circuit;
       short = c.in_ok-depth.ensures.short;
       decided = decided b.model c.in_ok-depth.depth c.verdict-verdict.result a e.settled;
     }
@@ -55,7 +55,7 @@ returns-in_err-conclude g c =
     let e = c.in_ok-depth.ensures.settles s b.model b.come b.told_is in
     let a = answered_by s b.model c.in_ok-depth.depth (world g.S.Store.shows c.settle.new.session) _ e.come c.verdict-verdict.ensures.next in
     let k = subst (λ z. Come s b.model c.in_ok-depth.depth (world g.S.Store.shows z)) (sym c.verdict-verdict.ensures.same) e.come in
-    absurd (c.in_err-conclude.ensures s b.model k a (sizes_are s.vars c.in_ok-frame.frame.circuit.now b.model.circuit b.describes.circuit))
+    absurd (c.in_err-conclude.ensures s b.model k a (sizes_are s.vars c.in_ok-source.source.circuit.now b.model.circuit b.describes.circuit))
 
 pub returns : goal.returns
 returns g c =
@@ -65,5 +65,5 @@ returns g c =
     let e = c.in_ok-depth.ensures.settles s b.model b.come b.told_is in
     let a = answered_by s b.model c.in_ok-depth.depth (world g.S.Store.shows c.settle.new.session) _ e.come c.verdict-verdict.ensures.next in
     let k = subst (λ z. Come s b.model c.in_ok-depth.depth (world g.S.Store.shows z)) (sym c.verdict-verdict.ensures.same) e.come in
-    concluded s c.args.job.now (parts c.in_ok-frame.frame) (sym c.in_ok-frame.ensures) b.model b.describes _ _ _ e.come.searched
-    (c.in_ok-conclude.ensures s b.model k a (sizes_are s.vars c.in_ok-frame.frame.circuit.now b.model.circuit b.describes.circuit))
+    concluded s c.args.job.now (parts c.in_ok-source.source) (sym c.in_ok-source.ensures) b.model b.describes _ _ _ e.come.searched
+    (c.in_ok-conclude.ensures s b.model k a (sizes_are s.vars c.in_ok-source.source.circuit.now b.model.circuit b.describes.circuit))

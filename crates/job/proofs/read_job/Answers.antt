@@ -10,4 +10,4 @@ pub returns : goal.returns
 returns c =
     let u = c.in_ok-described.ensures in
     let e = c.sizes.ensures ∙ ap sizes u.circuit in
-    subst (λ z. Reports c.args.job.now (Read z)) (sym e) (checked c.args.job.now _ (Ok u.model) c.in_ok-frame.ensures (right u.describes))
+    subst (λ z. Reports c.args.job.now (Read z)) (sym e) (checked c.args.job.now _ (Ok u.model) c.in_ok-source.ensures (right u.describes))

@@ -1,4 +1,4 @@
-use Rattle.std.proofs.Common.{◌≡◌, suc, length, map, take, replicate, refl, ap, sym, subst, ◌∙◌, add-one, length-take, arith}
+use Rattle.std.proofs.Common.{◌≡◌, suc, ◌+◌, length, map, take, replicate, refl, ap, sym, subst, ◌∙◌, length-take, arith}
 use Rattle.std.proofs.lemmas.List.{length-map}
 use Rattle.runs.specs.Models.{system}
 use Rattle.runs.specs.Search.{Trace}
@@ -17,8 +17,9 @@ returns g c s m k o =
     let d = c.args.depth in
     let x = c.of.result in
     let h = handed_by s m d (world g.S.Store.shows c.args.session.now) (world g.S.Store.shows c.trace.new.self) k o c.in_ok-trace.ensures.next (omega arith) (omega arith) in
-    let a : map (λ s. s.state) x.steps.items ≡ take (suc d) c.trace.new.states = rw (← add-one) c.of.ensures.states in
-    let b : map (λ s. s.input) x.steps.items ≡ take (suc d) c.trace.new.inputs = rw (← add-one) c.of.ensures.inputs in
+    let count : c.from-count.result + 1 ≡ suc d = omega arith in
+    let a : map (λ s. s.state) x.steps.items ≡ take (suc d) c.trace.new.states = c.of.ensures.states ∙ ap (λ i. take i c.trace.new.states) count in
+    let b : map (λ s. s.input) x.steps.items ≡ take (suc d) c.trace.new.inputs = c.of.ensures.inputs ∙ ap (λ i. take i c.trace.new.inputs) count in
     let n = sym (length-map x.steps.items (λ s. s.state)) ∙ ap length a ∙ length-take (suc d) c.trace.new.states in
     let e : depth_of x ≡ d = omega arith in (
       e,

@@ -12,7 +12,7 @@ pub invariant_of-result : goal.invariant_of-result
 invariant_of-result c =
     let p = c.new.ensures in
     let n = c.fitted-n.result.0 in
-    let b = fits_tells n 24 _ c.fitted-n.ensures.fit in
+    let b = fits_tells n 24 _ (c.fitted-n.ensures.fit (omega arith)) in
     record {
       some = b.0;
       wide = b.1;
@@ -28,7 +28,7 @@ returns c =
     let e = c.fitted-n.ensures in
     let n = c.fitted-n.result.0 in
     let size = length c.args.records.now in
-    let b = fits_tells n 24 _ e.fit in
+    let b = fits_tells n 24 _ (e.fit (omega arith)) in
     record {
       shows = begun n l _ p.empty p.room ∙ made_of_choice (λ m r. shown m [] r) (suits c.args.n size) c.args.n size e.variables e.records;
       fresh = begun_fresh n l _ p.empty p.room;

@@ -10,7 +10,7 @@ use Rattle.making.proofs.claims.act_on.Goals as goal
 pub returns-in-Constant-clause-acts : goal.returns-in-Constant-clause-acts
 returns-in-Constant-clause-acts g c p l fs gs k n d o =
     let m = alone (netlist c.args.lines.now.circuit.now) in
-    on_constant m p l c.args.stack.now.items c.in-Constant.value d (subst (λ (x : Act). Acts m x fs k gs) c.in-Constant.is o)
+    rw c.from.ensures (on_constant m p l c.args.stack.now.items c.in-Constant.value d (subst (λ (x : Act). Acts m x fs k gs) c.in-Constant.is o))
 
 pub returns-in-Name-clause-acts : goal.returns-in-Name-clause-acts
 returns-in-Name-clause-acts g c p l fs gs k n d o =

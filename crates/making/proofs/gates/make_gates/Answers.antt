@@ -22,19 +22,6 @@ overflow_cast-g g c =
     let n = netlist c.args.circuit.now in
     omega (arith, c.loop-g-test.true, ap length c.gates-gate-items.ensures, (sound_out n c.args.circuit.now.sound).few_gates)
 
-pub conjunction-made-requires : goal.conjunction-made-requires
-conjunction-made-requires g c =
-    let n = netlist c.args.circuit.now in
-    let k = c.loop-g.g in
-    let lt : k < length n.gates = omega (arith, c.loop-g-test.true, ap length c.gates-gate-items.ensures) in
-    let w = (sound_out n c.args.circuit.now.sound).wired k lt in
-    let e = ap (λ gs. get_or gs k blank) c.gates-gate-items.ensures in
-    let d = ap length c.deref.ensures.0 ∙ c.loop-g.invariant.0 in
-    record {
-      left = subst (λ x. x.left / 2 < length c.deref.result.now) (sym e) (omega (arith, w.0, d));
-      right = subst (λ x. x.right / 2 < length c.deref.result.now) (sym e) (omega (arith, w.1, d));
-    }
-
 pub push-requires : goal.push-requires
 push-requires g c =
     let n = netlist c.args.circuit.now in

@@ -1,23 +1,12 @@
-use Rattle.std.proofs.Common.{◌<◌, true, false, sym, subst}
-use Rattle.making.proofs.Steps.{fix_answers, or_answers, kept, fresh, ends_here, ends_later, gives_last, broke}
+use Rattle.making.proofs.Steps.{or_answers, runs_of, ends_after, ends_before, gives_last, broke}
 use Rattle.making.proofs.inputs.halves.Goals as goal
 
 pub returns-in_err-low : goal.returns-in_err-low
 returns-in_err-low g c p l f ma li =
     broke c.from_residual.result c.in_err-low.field-0.0 c.from_residual.ensures.1
-    (ends_here c.in_err-low.ensures.lawful _ (fix_answers false c.in_err-low.ensures ma li))
-
-pub returns-in_err-high : goal.returns-in_err-high
-returns-in_err-high g c p l f ma li =
-    let m1 = fix_answers false c.in_ok-low.ensures ma li in
-    broke c.from_residual-in_err-high.result c.in_err-high.field-0.0 c.from_residual-in_err-high.ensures.1
-    (ends_later c.in_ok-low.ensures.lawful m1
-    (ends_here c.in_err-high.ensures.lawful _ (fix_answers true c.in_err-high.ensures (kept m1.grown ma) (subst (λ n. c.args.x < n) (sym m1.grown.vars) li))))
+    (ends_before _ (c.in_err-low.ensures p l f ma li))
 
 pub returns : goal.returns
 returns g c p l f ma li =
-    let m1 = fix_answers false c.in_ok-low.ensures ma li in
-    let m2 = fix_answers true c.in_ok-high.ensures (kept m1.grown ma) (subst (λ n. c.args.x < n) (sym m1.grown.vars) li) in
-    ends_later c.in_ok-low.ensures.lawful m1
-    (ends_later c.in_ok-high.ensures.lawful m2
-    (gives_last c.or.ensures.lawful _ (or_answers c.or.ensures (kept m2.grown (fresh m1)) (fresh m2))))
+    let so = runs_of (c.in_ok-low.ensures p l f ma li) in
+    ends_after so.0 (gives_last c.or.ensures.lawful _ (or_answers c.or.ensures so.1.0 so.1.1))

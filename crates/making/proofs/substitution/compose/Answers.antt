@@ -1,47 +1,29 @@
-use Rattle.std.proofs.Common.{◌<◌, true, false, sym, subst}
-use Rattle.making.proofs.Steps.{fix_answers, and_answers, or_answers, kept, fresh, ends_here, ends_later, gives_last, broke}
+use Rattle.making.proofs.Steps.{and_answers, or_answers, kept, fresh, runs_grown, runs_of, ends_here, ends_later, ends_after, ends_before, gives_last, broke}
 use Rattle.making.proofs.substitution.compose.Goals as goal
 
 pub returns-in_err-low : goal.returns-in_err-low
 returns-in_err-low g c p l f h ma mb li =
     broke c.from_residual.result c.in_err-low.field-0.0 c.from_residual.ensures.1
-    (ends_here c.in_err-low.ensures.lawful _ (fix_answers false c.in_err-low.ensures ma li))
-
-pub returns-in_err-high : goal.returns-in_err-high
-returns-in_err-high g c p l f h ma mb li =
-    let m1 = fix_answers false c.in_ok-low.ensures ma li in
-    broke c.from_residual-in_err-high.result c.in_err-high.field-0.0 c.from_residual-in_err-high.ensures.1
-    (ends_later c.in_ok-low.ensures.lawful m1
-    (ends_here c.in_err-high.ensures.lawful _ (fix_answers true c.in_err-high.ensures (kept m1.grown ma) (subst (λ n. c.args.x < n) (sym m1.grown.vars) li))))
+    (ends_before _ (c.in_err-low.ensures p l f ma li))
 
 pub returns-in_err-over : goal.returns-in_err-over
 returns-in_err-over g c p l f h ma mb li =
-    let m1 = fix_answers false c.in_ok-low.ensures ma li in
-    let m2 = fix_answers true c.in_ok-high.ensures (kept m1.grown ma) (subst (λ n. c.args.x < n) (sym m1.grown.vars) li) in
+    let so = runs_of (c.in_ok-low.ensures p l f ma li) in
     broke c.from_residual-in_err-over.result c.in_err-over.field-0.0 c.from_residual-in_err-over.ensures.1
-    (ends_later c.in_ok-low.ensures.lawful m1
-    (ends_later c.in_ok-high.ensures.lawful m2
-    (ends_here c.in_err-over.ensures.lawful _ (and_answers c.in_err-over.ensures (kept m2.grown (kept m1.grown mb.function)) (fresh m2)))))
+    (ends_after so.0 (ends_here c.in_err-over.ensures.lawful _ (and_answers c.in_err-over.ensures (kept (runs_grown so.0) mb.function) so.1.1)))
 
 pub returns-in_err-under : goal.returns-in_err-under
 returns-in_err-under g c p l f h ma mb li =
-    let m1 = fix_answers false c.in_ok-low.ensures ma li in
-    let m2 = fix_answers true c.in_ok-high.ensures (kept m1.grown ma) (subst (λ n. c.args.x < n) (sym m1.grown.vars) li) in
-    let m3 = and_answers c.in_ok-over.ensures (kept m2.grown (kept m1.grown mb.function)) (fresh m2) in
+    let so = runs_of (c.in_ok-low.ensures p l f ma li) in
+    let m3 = and_answers c.in_ok-over.ensures (kept (runs_grown so.0) mb.function) so.1.1 in
     broke c.from_residual-in_err-under.result c.in_err-under.field-0.0 c.from_residual-in_err-under.ensures.1
-    (ends_later c.in_ok-low.ensures.lawful m1
-    (ends_later c.in_ok-high.ensures.lawful m2
-    (ends_later c.in_ok-over.ensures.lawful m3
-    (ends_here c.in_err-under.ensures.lawful _ (and_answers c.in_err-under.ensures (kept m3.grown (kept m2.grown (kept m1.grown mb.negation))) (kept m3.grown (kept m2.grown (fresh m1))))))))
+    (ends_after so.0 (ends_later c.in_ok-over.ensures.lawful m3
+    (ends_here c.in_err-under.ensures.lawful _ (and_answers c.in_err-under.ensures (kept m3.grown (kept (runs_grown so.0) mb.negation)) (kept m3.grown so.1.0)))))
 
 pub returns : goal.returns
 returns g c p l f h ma mb li =
-    let m1 = fix_answers false c.in_ok-low.ensures ma li in
-    let m2 = fix_answers true c.in_ok-high.ensures (kept m1.grown ma) (subst (λ n. c.args.x < n) (sym m1.grown.vars) li) in
-    let m3 = and_answers c.in_ok-over.ensures (kept m2.grown (kept m1.grown mb.function)) (fresh m2) in
-    let m4 = and_answers c.in_ok-under.ensures (kept m3.grown (kept m2.grown (kept m1.grown mb.negation))) (kept m3.grown (kept m2.grown (fresh m1))) in
-    ends_later c.in_ok-low.ensures.lawful m1
-    (ends_later c.in_ok-high.ensures.lawful m2
-    (ends_later c.in_ok-over.ensures.lawful m3
-    (ends_later c.in_ok-under.ensures.lawful m4
-    (gives_last c.or.ensures.lawful _ (or_answers c.or.ensures (kept m4.grown (fresh m3)) (fresh m4))))))
+    let so = runs_of (c.in_ok-low.ensures p l f ma li) in
+    let m3 = and_answers c.in_ok-over.ensures (kept (runs_grown so.0) mb.function) so.1.1 in
+    let m4 = and_answers c.in_ok-under.ensures (kept m3.grown (kept (runs_grown so.0) mb.negation)) (kept m3.grown so.1.0) in
+    ends_after so.0 (ends_later c.in_ok-over.ensures.lawful m3 (ends_later c.in_ok-under.ensures.lawful m4
+    (gives_last c.or.ensures.lawful _ (or_answers c.or.ensures (kept m4.grown (fresh m3)) (fresh m4)))))

@@ -14,16 +14,16 @@ use Rattle.making.proofs.Loops.{ends_upto, paired_kept}
 use Rattle.making.proofs.substitution.compose_all.Goals as goal
 
 -- turn k
-turn : {s t u : Shown} (p : Part) (q : ℕ) (x : ℕ → ℕ) (f : Fn) (h : ℕ → Fn) (first : ℕ) (bs : List Polarities) (k a : ℕ) → ((i : ℕ) → first + 2 * i ≡ x i)
+turn : {s t u : Shown} (p : Part) (q : ℕ) (x : ℕ → ℕ) (f : Fn) (h : ℕ → Fn) (first : ℕ) (bs : List Polarities) (k a : ℕ) → ((i : ℕ) → i < length bs → first + 2 * i ≡ x i)
     → Paired s bs h (length bs) → ((i : ℕ) → i < length bs → x i < s.vars) → k < length bs → Runs s (composed_all_list p q x h f k) t × Means t a (composed_all x h f k)
     → (r : Result ℕ Refusal) → Composes t a (first + 2 * k) (get_or bs k unpaired) r u
     → Ends plain s u (composed_all_list p q x h f (suc k)) (λ b. Means u b (composed_all x h f (suc k))) r
 turn {t = t} {u = u} p q x f h first bs k a vs mb li lt so r y =
     let w = runs_grown so.0 in
     ends_after so.0
-    (subst (λ i. Ends plain t u (at p q (composed_list i (h k) (composed_all x h f k))) (λ b. Means u b (composed i (h k) (composed_all x h f k))) r) (vs k)
+    (subst (λ i. Ends plain t u (at p q (composed_list i (h k) (composed_all x h f k))) (λ b. Means u b (composed i (h k) (composed_all x h f k))) r) (vs k lt)
     (y p q (composed_all x h f k) (h k) so.1 (paired_kept bs h (length bs) w mb k lt)
-    (subst (λ i. i < t.vars) (sym (vs k)) (subst (λ n. x k < n) (sym w.vars) (li k lt)))))
+    (subst (λ i. i < t.vars) (sym (vs k lt)) (subst (λ n. x k < n) (sym w.vars) (li k lt)))))
 
 pub loop-i-init : goal.loop-i-init
 loop-i-init g c p q x f h vs ma mb li = (ended, ma)

@@ -8,7 +8,7 @@ use Rattle.making.proofs.substitution.compose_all.Given as goal
 
 abbrev pub invariant-loop-i : goal.invariant-loop-i
 invariant-loop-i g l = (p : Part) (q : ℕ) (x : ℕ → ℕ) (f : Fn) (h : ℕ → Fn)
-    → ((i : ℕ) → l.first + 2 * i ≡ x i)
+    → ((i : ℕ) → i < length l.by → l.first + 2 * i ≡ x i)
     → Means (g.S.Store.shows l.initial.store) l.a f
     → Paired (g.S.Store.shows l.initial.store) l.by h (length l.by)
     → ((i : ℕ) → i < length l.by → x i < (g.S.Store.shows l.initial.store).vars)

@@ -1,9 +1,15 @@
-use Rattle.std.proofs.Common.{◌∙◌, ap}
+use Rattle.std.proofs.Common.{◌∙◌, ap, sym}
 use Rattle.order.specs.Renaming.{ordered}
 use Rattle.order.proofs.Lists.{permutes_order}
-use Rattle.order.proofs.Calls.{order_or_none}
+use Rattle.order.proofs.Calls.{order_or_none, order_fits}
 use Rattle.order.proofs.Rename.{reorders}
 use Rattle.order.proofs.Layer.new.Goals as goal
+
+pub invariant_of-result : goal.invariant_of-result
+invariant_of-result g c =
+    let e = c.figures-n.ensures in
+    let f = order_fits c.args.p.now _ c.of.result _ c.of.ensures c.unwrap_or_default-order.ensures in
+    record { fits = λ some. f some ∙ e.told.variables ∙ ap (λ s. s.vars) (sym e.same) }
 
 pub returns : goal.returns
 returns g c =

@@ -1,7 +1,11 @@
-use Rattle.order.proofs.Calls.{made_ordered}
+use Rattle.std.proofs.Common.{sym, ◌∙◌}
+use Rattle.order.proofs.Calls.{made_ordered, reply_vars}
 use Rattle.order.proofs.LayerStore.answer.Goals as goal
+
+pub invariant_of-self : goal.invariant_of-self
+invariant_of-self g c = record { fits = λ some. c.args.self.now.fits some ∙ sym (reply_vars _ _ _ _ _ _ c.answer.ensures) }
 
 pub returns : goal.returns
 returns g c =
-    let told = c.figures-n.ensures in
-    made_ordered c.args.self.now.order.places.items _ _ _ _ told.told told.same _ _ _ c.task_below.ensures c.answer.ensures
+    let l = c.args.self.now in
+    made_ordered l.order.places.items _ l.order.once l.fits _ _ _ _ c.task_below.ensures c.answer.ensures

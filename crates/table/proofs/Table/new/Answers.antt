@@ -10,7 +10,7 @@ pub invariant_of-result : goal.invariant_of-result
 invariant_of-result c =
     let p = c.new.ensures in
     let n = c.fitted-n.result.0 in
-    let t = fits_tells n 10 _ c.fitted-n.ensures.fit in
+    let t = fits_tells n 10 _ (c.fitted-n.ensures.fit (omega arith)) in
     record {
       some = t.0;
       few = t.1;
@@ -24,7 +24,7 @@ returns c =
     let e = c.fitted-n.ensures in
     let n = c.fitted-n.result.0 in
     let size = length c.args.records.now in
-    let t = fits_tells n 10 _ e.fit in
+    let t = fits_tells n 10 _ (e.fit (omega arith)) in
     let is = ap₂ (shown n) p.empty p.room in
     record {
       shows = is ∙ made_of_choice (λ m r. shown m [] r) (suits c.args.n size) c.args.n size e.variables e.records;

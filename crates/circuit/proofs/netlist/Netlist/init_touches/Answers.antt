@@ -4,7 +4,7 @@ use Rattle.circuit.proofs.netlist.Netlist.init_touches.Goals as goal
 
 pub loop-line-preserved : goal.loop-line-preserved
 loop-line-preserved c =
-    let r : c.self.inside.registers ≡ c.args.self.now.registers = search rules in
+    let r : c.from.result ≡ c.args.self.now.registers = search rules in
     (search rules, rw (c.push.ensures.items, r) (front_more c.args.self.now c.loop-line.line c.loop-line.marks.items (search rules) c.loop-line.invariant.1))
 
 pub loop-gate-init : goal.loop-gate-init

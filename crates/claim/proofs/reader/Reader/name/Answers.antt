@@ -7,3 +7,6 @@ returns-in_default c = λ d. no_name c.args.self.now c.args.sort c.args.digits.n
 
 pub returns : goal.returns
 returns c = λ d. read_name c.args.sort c.args.digits.now c.in-Some.n c.requires c.in-Some.ensures.0 (omega (arith, c.in-Some.ensures.1, c.limit.ensures)) c.atom.ensures
+
+pub number_below-requires : goal.number_below-requires
+number_below-requires c = c.args.self.now.placed.numeral c.args.sort c.args.digits.now c.requires

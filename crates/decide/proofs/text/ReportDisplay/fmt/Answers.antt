@@ -1,6 +1,6 @@
 use Rattle.std.proofs.Common.{ℕ, List, ◌++◌, codes, sym, ap, ◌∙◌, subst}
 use Rattle.std.specs.Fmt.{HasWritten}
-use Rattle.job.specs.Notices.{notice_text}
+use Rattle.description.specs.Notices.{notice_text}
 use Rattle.decide.specs.Texts.{text}
 use Rattle.decide.proofs.text.ReportDisplay.fmt.Goals as goal
 

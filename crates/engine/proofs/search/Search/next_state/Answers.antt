@@ -18,10 +18,10 @@ use Rattle.std.proofs.Common.{Result, Bool, Ok}
 pub loop-bit-init : goal.loop-bit-init
 loop-bit-init g c =
     let k = c.args.self.now.parts in
-    let e = ap (λ i. i.iter.rest.now) c.into_iter-bit-iterator.ensures.into_iter_gives ∙ ap (λ i. i.rest.now) c.rev-bit-items.ensures.source ∙ c.iter.ensures.rest ∙ c.as_slice.ensures.value in
+    let e = ap (λ i. i.iter.rest.now) c.into_iter-bit-iterator.ensures.into_iter_gives ∙ ap (λ i. i.rest.now) c.rev-bit-items.ensures.source ∙ c.iter.ensures.rest ∙ c.deref.ensures.0 in
     let few = k.registers in
     let n : length c.into_iter-bit-iterator.result.iter.rest.now ≡ k.n = omega (arith, ap length e, k.led) in
-    (tt, tt, refl, ([], append-nil _ ∙ e, omega arith), λ m h lq lv. sym (div-eq_of_lt (subst (λ i. (system m).next c.args.q c.args.v < 2 ^ i) (sym (n ∙ h.registers)) (closed m h.valid c.args.q c.args.v lq lv))))
+    (tt, tt, refl, ([], append-nil _ ∙ e, omega arith), λ m h lq lv. sym (div-eq_of_lt (subst (λ i. (system m).next c.args.step.state c.args.step.input < 2 ^ i) (sym (n ∙ h.registers)) (closed m h.valid c.args.step.state c.args.step.input lq lv))))
 
 -- the place of the number that is read, and the bits that were read before it
 fits : (g : _) (c : In-Some g) → (length c.next.new.self.iter.rest.now < c.args.self.now.parts.n) × (c.loop-bit.next < 128)
@@ -33,25 +33,25 @@ fits g c =
     let few = k.registers in
     (omega arith, room (length d.0) c.loop-bit.next (omega arith) d.2)
 
-told : (g : _) (c : In-Some g) (m : Model) → Readable (g.S.Store.shows c.args.store.now) m c.args.self.now.parts → State (system m) c.args.q → Input (system m) c.args.v
-    → (r : Result Bool Fault) → Tells (g.S.Store.shows c.loop-bit.store) c.args.self.now.parts.n c.in-Some.bit.now.function c.args.q c.args.v r
-    → r ≡ Ok (bit (length c.next.new.self.iter.rest.now) ((system m).next c.args.q c.args.v))
+told : (g : _) (c : In-Some g) (m : Model) → Readable (g.S.Store.shows c.args.store.now) m c.args.self.now.parts → State (system m) c.args.step.state → Input (system m) c.args.step.input
+    → (r : Result Bool Fault) → Tells (g.S.Store.shows c.loop-bit.store) c.args.self.now.parts.n c.in-Some.bit.now.function c.args.step.state c.args.step.input r
+    → r ≡ Ok (bit (length c.next.new.self.iter.rest.now) ((system m).next c.args.step.state c.args.step.input))
 told g c m h lq lv r t =
     let k = c.args.self.now.parts in
     let d = c.loop-bit.invariant.3 in
     let i = length c.next.new.self.iter.rest.now in
     let l = (fits g c).0 in
     let a : c.in-Some.bit.now.function ≡ (get_or k.nexts.items i unpaired).function = ap (λ p. p.function) (item_is _ _ d.0 _ _ c.in-Some.ensures.steps d.1 unpaired) in
-    next_is _ m k h i _ c.args.q c.args.v r l a lq lv (told_still _ _ _ _ _ _ _ c.loop-bit.invariant.2 t)
+    next_is _ m k h i _ c.args.step.state c.args.step.input r l a lq lv (told_still _ _ _ _ _ _ _ c.loop-bit.invariant.2 t)
 
 pub overflow_mul-next : goal.overflow_mul-next
 overflow_mul-next g c = let p = (fits g c).1 in omega arith
 
-pub returns-in_err-next-clause-goes : goal.returns-in_err-next-clause-goes
-returns-in_err-next-clause-goes g c m h lq lv = refused (sym c.in_err-next.was ∙ told g (goal.at.returns-in_err-next-clause-goes g c).In-Some m h lq lv _ c.truth.ensures.tells)
+pub returns-in_err-truth-clause-goes : goal.returns-in_err-truth-clause-goes
+returns-in_err-truth-clause-goes g c m h lq lv = refused (sym c.in_err-truth.was ∙ told g (goal.at.returns-in_err-truth-clause-goes g c).In-Some m h lq lv _ c.truth.ensures.tells)
 
 pub overflow_add-next : goal.overflow_add-next
-overflow_add-next g c = let p = (fits g (goal.at.overflow_add-next g c).In-Some).1 in let b = one c.in_ok-next.field-0 in omega arith
+overflow_add-next g c = let p = (fits g (goal.at.overflow_add-next g c).In-Some).1 in let b : c.from.result < 2 = rw c.from.ensures (one c.in_ok-truth.field-0) in omega arith
 
 pub loop-bit-preserved : goal.loop-bit-preserved
 loop-bit-preserved g c =
@@ -60,8 +60,9 @@ loop-bit-preserved g c =
       tt,
       tt,
       c.truth.ensures.same ∙ c.loop-bit.invariant.2,
-      (c.in-Some.bit.now ∷ d.0, back_one _ _ d.0 _ _ s d.1, more_below _ _ _ d.2),
+      (c.in-Some.bit.now ∷ d.0, back_one _ _ d.0 _ _ s d.1, rw c.from.ensures (more_below _ _ c.in_ok-truth.field-0 d.2)),
       λ m h lq lv.
-          ap (λ x. 2 * x + bool_byte c.in_ok-next.field-0) (c.loop-bit.invariant.4 m h lq lv ∙ ap (λ n. (system m).next c.args.q c.args.v / 2 ^ n) (one_less _ _ d.0 _ c.in-Some.bit.now s d.1))
-          ∙ more _ _ c.in_ok-next.field-0 (sym c.in_ok-next.was ∙ told g (goal.at.loop-bit-preserved g c).In-Some m h lq lv _ c.truth.ensures.tells),
+          ap (λ x. 2 * c.loop-bit.next + x) c.from.ensures
+          ∙ ap (λ x. 2 * x + bool_byte c.in_ok-truth.field-0) (c.loop-bit.invariant.4 m h lq lv ∙ ap (λ n. (system m).next c.args.step.state c.args.step.input / 2 ^ n) (one_less _ _ d.0 _ c.in-Some.bit.now s d.1))
+          ∙ more _ _ c.in_ok-truth.field-0 (sym c.in_ok-truth.was ∙ told g (goal.at.loop-bit-preserved g c).In-Some m h lq lv _ c.truth.ensures.tells),
     )

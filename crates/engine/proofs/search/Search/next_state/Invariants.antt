@@ -12,5 +12,5 @@ invariant-loop-bit g l =
     × (goal.iterator-loop-bit g).is_finite l.bit-iterator
     × (g.S.Store.shows l.store ≡ g.S.Store.shows l.initial.store)
     × ((done : List _) × (rest ++ done ≡ l.self.parts.nexts.items) × (l.next < 2 ^ length done))
-    × ((m : Model) → Readable (g.S.Store.shows l.initial.store) m l.self.parts → State (system m) l.q → Input (system m) l.v
-    → l.next ≡ (system m).next l.q l.v / 2 ^ length rest)
+    × ((m : Model) → Readable (g.S.Store.shows l.initial.store) m l.self.parts → State (system m) l.step.state → Input (system m) l.step.input
+    → l.next ≡ (system m).next l.step.state l.step.input / 2 ^ length rest)

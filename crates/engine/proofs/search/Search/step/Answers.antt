@@ -57,9 +57,9 @@ returns-in_err-place_at g c m j e = at_count m _ _ (c.len-count.ensures.value �
     (broke c.from_residual-in_err-place_at.result c.in_err-place_at.field-0.0 c.from_residual-in_err-place_at.ensures.1
     (ends_refused (placed_err Sets i c.and.result c.place_at-else-set-self.ensures (refl, refl, tt) (met m i _ k d a o.0 o.1 l _ c.and.result c.and.ensures) c.in_err-place_at.was))))
 
-pub returns-then-branch-eq0 : goal.returns-then-branch-eq0
-returns-then-branch-eq0 g c m j e = at_count m _ _ (c.len-count.ensures.value ∙ e.count) e (λ d.
-    let b = (goal.at.returns-then-branch-eq0 g c).After-place_at in
+pub returns-then-branch-eq-FALSE : goal.returns-then-branch-eq-FALSE
+returns-then-branch-eq-FALSE g c m j e = at_count m _ _ (c.len-count.ensures.value ∙ e.count) e (λ d.
+    let b = (goal.at.returns-then-branch-eq-FALSE g c).After-place_at in
     let i = c.len-count.result in
     let a = c.in_ok-set.set in
     let k = c.args.self.now in
@@ -67,11 +67,11 @@ returns-then-branch-eq0 g c m j e = at_count m _ _ (c.len-count.ensures.value �
     let l = lawful g b m d a c.in_ok-set.was in
     let p = placed_ok Sets i c.and.result c.place_at-else-set-self.ensures (refl, refl, tt) (met m i _ k d a o.0 o.1 l _ c.and.result c.and.ensures) c.in_ok-place_at.was in
     grown m i _ k d a o.0 o.1 l c.if-set-self.false
-    (made p.0 (still_open m i _ k d a o.0 o.1 l c.if-set-self.false c.in_ok-place_at.field-0 p.0 p.1 c.and.ensures.after c.if-branch-eq0.true)))
+    (made p.0 (still_open m i _ k d a o.0 o.1 l c.if-set-self.false c.in_ok-place_at.field-0 p.0 p.1 c.and.ensures.after c.if-branch-eq-FALSE.true)))
 
-pub returns-else-branch-eq0 : goal.returns-else-branch-eq0
-returns-else-branch-eq0 g c m j e = at_count m _ _ (c.len-count.ensures.value ∙ e.count) e (λ d.
-    let b = (goal.at.returns-else-branch-eq0 g c).After-place_at in
+pub returns-else-branch-eq-FALSE : goal.returns-else-branch-eq-FALSE
+returns-else-branch-eq-FALSE g c m j e = at_count m _ _ (c.len-count.ensures.value ∙ e.count) e (λ d.
+    let b = (goal.at.returns-else-branch-eq-FALSE g c).After-place_at in
     let i = c.len-count.result in
     let a = c.in_ok-set.set in
     let k = c.args.self.now in
@@ -79,4 +79,4 @@ returns-else-branch-eq0 g c m j e = at_count m _ _ (c.len-count.ensures.value �
     let l = lawful g b m d a c.in_ok-set.was in
     let p = placed_ok Sets i c.and.result c.place_at-else-set-self.ensures (refl, refl, tt) (met m i _ k d a o.0 o.1 l _ c.and.result c.and.ensures) c.in_ok-place_at.was in
     grown m i _ k d a o.0 o.1 l c.if-set-self.false
-    (made p.0 (now_unsafe m i _ k d a o.0 o.1 l c.if-set-self.false c.in_ok-place_at.field-0 p.0 p.1 c.and.ensures.after c.if-branch-eq0.false)))
+    (made p.0 (now_unsafe m i _ k d a o.0 o.1 l c.if-set-self.false c.in_ok-place_at.field-0 p.0 p.1 c.and.ensures.after c.if-branch-eq-FALSE.false)))

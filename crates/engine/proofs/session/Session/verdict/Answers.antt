@@ -1,23 +1,20 @@
-use Rattle.std.proofs.Common.{sym, subst}
-use Rattle.uses.specs.Calls.{stand}
+use Rattle.std.proofs.Common.{◌≡◌, rules, sym, subst}
+use Rattle.std.specs.Borrow.{Bor}
+use Rattle.uses.specs.Calls.{State, told, stand}
 use Rattle.uses.specs.Promise.{Promise}
 use Rattle.uses.proofs.Promises.{promised}
-use Rattle.engine.specs.Keeping.{world}
-use Rattle.engine.proofs.Keepings.{told_none, told_some, asked}
+use Rattle.engine.specs.declared.search.Search.{Search}
+use Rattle.engine.specs.Keeping.{world, Keeps}
+use Rattle.engine.proofs.Keepings.{told_by, asked}
 use Rattle.engine.proofs.session.Session.verdict.Goals as goal
+use Rattle.engine.proofs.session.Session.verdict.Goals.{After-map_or}
 
-pub returns-in-Some-clause-promise : goal.returns-in-Some-clause-promise
-returns-in-Some-clause-promise g c h st u k =
-    let w = world g.S.Store.shows c.args.self.now in
-    subst (λ r. Promise h st r) (sym (told_some st w c.in-Some.search c.in-Some.is k)) (promised h (stand st w.store) u)
+tells : (g : _) (c : After-map_or g) (st : State) → Keeps st (world g.S.Store.shows c.args.self.now) → c.map_or.result ≡ told st
+tells g c st = told_by (λ (x : Bor Search). x.now) _ st (world g.S.Store.shows c.args.self.now) c.as_ref.result c.map_or.result c.as_ref.ensures.value c.map_or.ensures (λ k p. search rules)
 
-pub returns-in-Some-clause-next : goal.returns-in-Some-clause-next
-returns-in-Some-clause-next g c = asked (world g.S.Store.shows c.args.self.now) _ (λ st k. told_some st _ c.in-Some.search c.in-Some.is k)
+pub returns-clause-promise : goal.returns-clause-promise
+returns-clause-promise g c h st u k =
+    subst (λ r. Promise h st r) (sym (tells g (goal.at.returns-clause-promise g c).After-map_or st k)) (promised h (stand st (g.S.Store.shows c.args.self.now.store)) u)
 
-pub returns-in-None-clause-promise : goal.returns-in-None-clause-promise
-returns-in-None-clause-promise g c h st u k =
-    let w = world g.S.Store.shows c.args.self.now in
-    subst (λ r. Promise h st r) (sym (told_none st w c.in-None.is k)) (promised h (stand st w.store) u)
-
-pub returns-in-None-clause-next : goal.returns-in-None-clause-next
-returns-in-None-clause-next g c = asked (world g.S.Store.shows c.args.self.now) _ (λ st k. told_none st _ c.in-None.is k)
+pub returns-clause-next : goal.returns-clause-next
+returns-clause-next g c = asked (world g.S.Store.shows c.args.self.now) c.map_or.result (tells g (goal.at.returns-clause-next g c).After-map_or)

@@ -13,5 +13,5 @@ returns c =
     let n = netlist c.args.self.now.circuit.now in
     let d = sound_out n c.args.self.now.circuit.now.sound in
     let end : c.len-end.result - 1 ≡ init_line n = omega (arith, c.len-end.ensures.value, c.args.self.now.whole, d.enough_gates) in
-    let start : c.len-end.result - 1 - c.registers.result ≡ next_line n 0 = omega (arith, end, c.registers.ensures, d.enough_gates) in
-    cut _ _ (c.len-end.result - 1 - c.registers.result) (c.len-end.result - 1) _ _ c.deref.ensures.0 start end
+    let start : c.len-end.result - 1 - c.from.result ≡ next_line n 0 = omega (arith, end, c.from.ensures, c.registers.ensures, d.enough_gates) in
+    cut _ _ (c.len-end.result - 1 - c.from.result) (c.len-end.result - 1) _ _ c.deref.ensures.0 start end

@@ -1,0 +1,34 @@
+// The state and the input of a step.
+ghost use Rattle.std.specs.Prelude.{◌≡◌, ◌*◌, ◌^◌, ◌<◌, ◌≤◌};
+ghost use Rattle.runs.specs.Functions.{spread};
+
+#[derive(Clone, Copy, Default, PartialEq, Eq, Debug)]
+pub struct Step {
+    pub state: u16,
+    pub input: u16,
+}
+
+impl Step {
+    // A step for what the state alone decides: any input would do.
+    pub(crate) fn at(state: u16) -> Step
+        ensures { result ≡ record { state = state; input = 0 } }
+    {
+        Step { state, input: 0 }
+    }
+
+    // The valuation of n registers and the inputs.
+    pub(crate) fn valuation(self, n: u8) -> u32
+        requires { n ≤ 8 }
+        ensures is { result ≡ spread n self.state self.input }
+        ensures below { result < 65536 * 4 ^ n }
+    {
+        if n == 0 {
+            return u32::from(self.input);
+        }
+        let rest = Step {
+            state: self.state / 2,
+            ..self
+        };
+        4 * rest.valuation(n - 1) + u32::from(self.state % 2)
+    }
+}
