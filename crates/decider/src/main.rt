@@ -15,6 +15,7 @@ fn main(rt: HostRuntime) -> io::Result<()> {
     // One byte more tells a job that is too long.
     rt.stdin().take(LONGEST + 1).read_to_end(&mut job)?;
     let mut records = [Node::default(); RECORDS];
-    let report = report_on(&job, Diagram::new(VARIABLES, &mut records));
+    let mut links = [0; RECORDS];
+    let report = report_on(&job, Diagram::new(VARIABLES, &mut records, &mut links));
     print!(rt; "{report}")
 }
