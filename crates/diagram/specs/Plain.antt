@@ -1,4 +1,4 @@
--- Where a constant side gives the result of an operator.
+-- Where a side gives the result of an operator.
 use Rattle.std.specs.Prelude.{◌≡◌, ℕ, ◌≤◌, ◌⊎◌, List, Some, None, Option}
 use Rattle.store.specs.declared.task.Op.{Op}
 use Rattle.store.specs.Tasks.{applied}

@@ -8,7 +8,7 @@ ghost use Rattle.diagram.specs.Asked.{peak, Before};
 ghost use Rattle.diagram.specs.Making.{Making, Makes, Settled, HalvedTask};
 
 use super::Diagram;
-use super::operator::by_constant;
+use super::operator::by_sides;
 use nodes::Node;
 use records::Full;
 use store::task::Task;
@@ -40,7 +40,7 @@ impl Diagram<'_> {
     {
         match task {
             Task::Not(a) if a < 2 => Some(1 - a),
-            Task::Both(op, a, b) => by_constant(op, a, b),
+            Task::Both(op, a, b) => by_sides(op, a, b),
             Task::Cofactor(a, i, t) if i <= self.top(a) => Some(self.child(a, i, t)),
             Task::Variable(_) | Task::Not(_) | Task::Cofactor(_, _, _) => None,
         }

@@ -1,10 +1,10 @@
-// What an operator gives where a side is constant.
+// What an operator gives where a side is constant, or both sides are the same.
 ghost use Rattle.diagram.specs.Plain.{Plain};
 
 use store::task::Op;
 
-// The number of the result where a side is constant: an absorbing side, or the other one of a neutral side.
-pub fn by_constant(op: Op, a: u16, b: u16) -> Option<u16>
+// The number of the result where a side gives it: an absorbing one, the other of a neutral one, or each of two that are the same.
+pub fn by_sides(op: Op, a: u16, b: u16) -> Option<u16>
     ensures { Plain op a b result }
 {
     let absorbing = match op {
@@ -12,7 +12,7 @@ pub fn by_constant(op: Op, a: u16, b: u16) -> Option<u16>
         Op::Or => 1,
     };
     let neutral = 1 - absorbing;
-    if a == absorbing || b == neutral {
+    if a == b || a == absorbing || b == neutral {
         Some(a)
     } else if b == absorbing || a == neutral {
         Some(b)

@@ -3,7 +3,7 @@ use Rattle.diagram.proofs.Diagram.at_once.Goals as goal
 
 pub returns-in-Both : goal.returns-in-Both
 returns-in-Both c =
-    rw c.in-Both.is (settled_both c.args.self.now c.in-Both.op c.in-Both.a c.in-Both.b c.by_constant.result (rw c.in-Both.is at c.requires) c.by_constant.ensures)
+    rw c.in-Both.is (settled_both c.args.self.now c.in-Both.op c.in-Both.a c.in-Both.b c.by_sides.result (rw c.in-Both.is at c.requires) c.by_sides.ensures)
 
 pub returns-in-Variable : goal.returns-in-Variable
 returns-in-Variable c =
