@@ -28,6 +28,7 @@ const SWAP: [u8; 18] = [2, 0, 0, 0, 3, 0, 4, 0, 2, 0, 2, 0, 4, 0, 2, 0, 5, 0];
 // Two registers: the first takes over the input, and the second the first.
 const DELAY: [u8; 18] = [2, 0, 1, 0, 3, 0, 6, 0, 2, 0, 3, 0, 6, 0, 2, 0, 5, 0];
 
+// The circuit `FOLLOW` with these claims.
 fn follow<'a>(assumption: &'a [u8], property: &'a [u8]) -> Source<'a> {
     Source {
         circuit: &FOLLOW,
@@ -36,7 +37,7 @@ fn follow<'a>(assumption: &'a [u8], property: &'a [u8]) -> Source<'a> {
     }
 }
 
-// What is told of a search: the depth of the verdict and the steps of the trace, or a bit for each state inside.
+// What is told of a search: how many advances, and the depth and the trace, or a bit for each state inside.
 #[derive(Clone, Copy, PartialEq, Eq, Debug)]
 enum Told {
     Unsafe {
@@ -57,7 +58,7 @@ fn step(state: u16, input: u16) -> Step {
     Step { state, input }
 }
 
-// The steps of the trace.
+// The steps of the trace, as they lie in two longer arrays.
 fn steps<S: Store>(session: &mut Session<S>) -> Result<[Step; 4], Fault> {
     let mut states = [UNWRITTEN.state; 4];
     let mut inputs = [UNWRITTEN.input; 4];
@@ -85,6 +86,7 @@ fn search<S: Store + Drop>(store: S, source: Source) -> Result<Told, Fault> {
             }
             Ok(Told::Safe { advances, inside })
         }
+        // A settled search has neither verdict.
         Verdict::Empty | Verdict::Open => Err(Fault::Verdict),
     }
 }
@@ -114,18 +116,20 @@ fn unsafe_at(depth: u16, steps: [Step; 4]) -> Told {
     }
 }
 
-fn safe_at(advances: u16, inside: u16) -> Told {
-    Told::Safe { advances, inside }
-}
-
 #[test]
 fn stores_agree(rt: HostRuntime) -> Result<(), Fail> {
-    let source = follow(b"1", b"!s0");
-    agree(&rt, source, unsafe_at(1, [step(0, 1), step(1, 0), UNWRITTEN, UNWRITTEN]))?;
+    agree(
+        &rt,
+        follow(b"1", b"!s0"),
+        unsafe_at(1, [step(0, 1), step(1, 0), UNWRITTEN, UNWRITTEN]),
+    )?;
     agree(
         &rt,
         follow(b"!v0", b"!s0"),
-        safe_at(1, 1),
+        Told::Safe {
+            advances: 1,
+            inside: 1,
+        },
     )?;
     agree(
         &rt,
@@ -137,13 +141,24 @@ fn stores_agree(rt: HostRuntime) -> Result<(), Fail> {
         assumption: b"1",
         property: b"!s0 | !s1",
     };
-    agree(&rt, source, safe_at(1, 7))?;
+    agree(
+        &rt,
+        source,
+        Told::Safe {
+            advances: 1,
+            inside: 7,
+        },
+    )?;
     let source = Source {
         circuit: &DELAY,
         assumption: b"1",
         property: b"!s1",
     };
-    agree(&rt, source, unsafe_at(2, [step(0, 1), step(1, 0), step(2, 0), UNWRITTEN]))
+    agree(
+        &rt,
+        source,
+        unsafe_at(2, [step(0, 1), step(1, 0), step(2, 0), UNWRITTEN]),
+    )
 }
 
 // What is told of the fault that a search is refused for.
@@ -185,14 +200,14 @@ fn room_in_every_part(rt: HostRuntime) -> Result<(), Fail> {
         (Part::Sets, 1),
         (Part::Sets, 1),
     ];
-    for (records, (part, place)) in places.iter().enumerate() {
+    for (records, &(part, place)) in places.iter().enumerate() {
         let mut tables = vec![in rt.alloc(); Truths::default(); records]?;
         assert_eq!(rt;
             refusal(Table::new(10, &mut tables), source),
             Some(Notice {
                 number: 10,
-                part: *part,
-                place: *place,
+                part,
+                place,
             })
         );
     }
