@@ -39,14 +39,12 @@ impl Netlist {
         ensures { result ≡ says file.now }
     {
         let count = sizes.gates;
+        let read = (0..count).map(|g| Gate {
+            left: number_at(file, 3 + g),
+            right: number_at(file, 3 + count + g),
+        });
         let mut gates = ArrayVec::new();
-        // Pushes: of an `extend` by a `map`, `search` found no proof that the closure gives `gate_at`.
-        for g in 0..count {
-            gates.push(Gate {
-                left: number_at(file, 3 + g),
-                right: number_at(file, 3 + count + g),
-            });
-        }
+        gates.extend(read).unwrap();
         Netlist {
             registers: sizes.registers as u8,
             inputs: sizes.inputs as u8,
@@ -96,7 +94,7 @@ impl Netlist {
         ensures { result ≡ touching self.now (init_line self.now) }
     {
         let mut marks = ArrayVec::<bool, MOST_LINES>::new();
-        // Pushes: `extend` gives a Result to unwrap, and the mark of a gate is read from those before it.
+        // Pushes, of the lines before the gates as well: the mark of a gate is read from those before it.
         for line in 0..self.gate_line(0) {
             marks.push(line > usize::from(self.registers));
         }

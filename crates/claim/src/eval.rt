@@ -32,8 +32,7 @@ impl Valuation<'_> {
 }
 
 // Does what a code does, with the truths of the names. A match, and no closures: a code is data, read from a text.
-// `making` does the same in a store. One function for both would take a trait of five acts, with their laws over what
-// a store shows, and a refusal at a place, which no truth has.
+// Not one with `making`'s: a trait of five acts would carry laws over what a store shows, and a refusal that no truth has.
 fn act(operands: &mut ArrayVec<bool, LONGEST>, code: Code, values: &Valuation)
     requires enough { arity code.act ≤ array_vec_len operands.old }
     requires room { array_vec_len operands.old < 512 }

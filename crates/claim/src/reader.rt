@@ -139,8 +139,7 @@ impl<'a> Reader<'a> {
         Ok(())
     }
 
-    // Two loops: of one that takes the inner reader, `joined-requires` stayed open, since in a cycle that reader is
-    // not always callable, but only further on; and one over a level would switch on which rule comes next.
+    // Two loops: of one that takes the inner reader, `joined-requires` stayed open: in a cycle it is not always callable.
     #[cycle(claim_factor_term)]
     pub(crate) fn claim(&mut self, depth: Depth) -> Result<(), Fault>
         ensures { MatchResult result (λ _. Taken claim depth.opened self.old self.new) (λ f. Stopped claim depth.opened self.old self.new f) }

@@ -17,7 +17,7 @@ impl Store for Diagram<'_> {
         self.finish(used, made)
     }
 
-    // Each make says this: to say it once, the trait would ask three more methods of every store, of a layer too.
+    // Each make says this: said once, the trait would need the truth of any number, held or not, and that numbers are held in a row.
     fn value(&mut self, a: u16, w: u32) -> Result<bool, Refusal> {
         check_value(a, w, self.nodes.len(), self.n)?;
         Ok(self.truth(a, w))

@@ -16,7 +16,7 @@ use store::refusal::Unfit;
 const MOST: u8 = 24;
 
 // Whether a diagram store of n variables can be made in the records.
-// The two stay apart: here the records are only looked at, and `new` takes them.
+// n and the records are two parameters, since here the records are only looked at, and `new` takes them.
 pub fn check(n: u8, records: &[Node]) -> Result<(), Unfit>
     ensures { result ≡ (if suits n (length records.now) then Ok tt else Err Outside) }
 {

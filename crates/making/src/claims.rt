@@ -9,13 +9,14 @@ use crate::fault::Fault;
 use crate::lines::Lines;
 use crate::places::place_at;
 use arrayvec::ArrayVec;
+use claim::LONGEST;
 use claim::code::{Act, Code};
 use description::part::Part;
 use store::Store;
 use store::refusal::Refusal;
 
 // The operands of a claim, at most one for each code.
-type Stack = ArrayVec<u16, 512>;
+type Stack = ArrayVec<u16, LONGEST>;
 
 // Takes the top of the stack, or false if it is empty.
 fn pop(stack: &mut Stack) -> u16

@@ -6,8 +6,8 @@ ghost use Rattle.runs.specs.Valuations.{name_line};
 
 use crate::FALSE;
 use arrayvec::ArrayVec;
-use circuit::MOST_LINES;
 use circuit::circuit::Circuit;
+use circuit::{MOST_LINES, MOST_REGISTERS};
 use claim::code::Sort;
 
 // The numbers of the first lines, in their order. They are a parameter beside the circuit while they grow, since `Lines` is whole.
@@ -18,7 +18,7 @@ pub(crate) type Numbers = ArrayVec<u16, MOST_LINES>;
 pub(crate) struct Lines<'a> {
     pub(crate) circuit: &'a Circuit,
     pub(crate) numbers: Numbers,
-    pub(crate) copies: ArrayVec<u16, 8>,
+    pub(crate) copies: ArrayVec<u16, MOST_REGISTERS>,
     ghost whole: { length numbers.items ≡ lines (netlist circuit.now) },
     ghost copied: { length copies.items ≡ (netlist circuit.now).registers },
 }

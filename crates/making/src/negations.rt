@@ -4,13 +4,14 @@ ghost use Rattle.making.specs.Promises.{Negates};
 
 use crate::parts::Polarities;
 use arrayvec::ArrayVec;
+use circuit::MOST_REGISTERS;
 use store::Store;
 use store::refusal::Refusal;
 
 pub(crate) fn with_negations<S: Store>(
     store: &mut S,
     functions: &[u16],
-) -> Result<ArrayVec<Polarities, 8>, Refusal>
+) -> Result<ArrayVec<Polarities, MOST_REGISTERS>, Refusal>
     requires { length functions.now ≤ 8 }
     ensures each { IfOk result (λ ps. length ps.items ≡ length functions.now) }
     ensures negates { Negates (S.Store.shows store.old) functions.now result (S.Store.shows store.new) }

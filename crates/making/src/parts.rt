@@ -1,6 +1,7 @@
 ghost use Rattle.std.specs.Prelude.{◌≡◌, ◌≤◌, length};
 
 use arrayvec::ArrayVec;
+use circuit::MOST_REGISTERS;
 
 // The numbers of a function and of its negation.
 #[derive(Clone, Copy, Default)]
@@ -15,8 +16,8 @@ pub struct Parts {
     // How many registers and inputs. `copies` is as long as `n`, but its length is a usize: each reader counts variables by `n`, and would have to narrow it.
     pub n: u8,
     pub m: u8,
-    pub copies: ArrayVec<Polarities, 8>,
-    pub nexts: ArrayVec<Polarities, 8>,
+    pub copies: ArrayVec<Polarities, MOST_REGISTERS>,
+    pub nexts: ArrayVec<Polarities, MOST_REGISTERS>,
     pub assumed: u16,
     pub property: u16,
     pub init: u16,

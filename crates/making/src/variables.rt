@@ -7,6 +7,7 @@ ghost use Rattle.making.specs.Promises.{MakesVariables};
 
 use crate::lines::Numbers;
 use arrayvec::ArrayVec;
+use circuit::MOST_REGISTERS;
 use circuit::circuit::Circuit;
 use store::Store;
 use store::refusal::Refusal;
@@ -16,7 +17,7 @@ pub(crate) fn make_variables<S: Store>(
     store: &mut S,
     circuit: &Circuit,
     numbers: &mut Numbers,
-) -> Result<ArrayVec<u16, 8>, Refusal>
+) -> Result<ArrayVec<u16, MOST_REGISTERS>, Refusal>
     requires { length numbers.old.items ≡ 1 }
     ensures lines { OnOk result (length numbers.new.items ≡ gate_line (netlist circuit.now) 0) }
     ensures copies { IfOk result (λ cs. length cs.items ≡ (netlist circuit.now).registers) }

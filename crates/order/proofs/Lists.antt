@@ -6,8 +6,8 @@ use Rattle.std.proofs.Math.Bool.{and_comm, and-true}
 use Rattle.std.proofs.lemmas.List.FromFn.{map-range_with_len_more}
 use Rattle.std.proofs.lemmas.List.Folds.{list_all-append}
 use Rattle.std.proofs.lemmas.List.Sums.{sum_by-cons, count_by-le-length}
-use Rattle.std.proofs.lemmas.Bool.{cases_eq, eq-eqb, ne_eqb, lt-ltb, le-ltb, cases_lt, cases_Bool, not-true, and_from, and_parts, ltb-true, and_left, and_right, cond-true, cond-false}
-use Rattle.std.proofs.lemmas.Bool.Decides.{Decides-below_and, Decides-eqb, Decides-and, Decides-not, nat_tests}
+use Rattle.std.proofs.lemmas.Bool.{cases_eq, eq-eqb, ne_eqb, lt-ltb, le-ltb, cases_lt, cases_Bool, and_from, and_parts, ltb-true, and_left, and_right, cond-true, cond-false}
+use Rattle.std.proofs.lemmas.Bool.Decides.{Decides-below_and, Decides-eqb, Decides-and, nat_tests}
 use Rattle.store.specs.Fun.{each}
 use Rattle.order.specs.Listing.{times, is_order, order_of, place, Fits}
 
@@ -72,10 +72,6 @@ twice (x ∷ xs) (suc i) (suc j) h l e t =
 
 pub order_there : (n : ℕ) (xs : List ℕ) (i : ℕ) → is_order n xs ≡ true → i < n → order_of n xs i ≡ get_or xs i 0
 order_there n xs i e h = cond-true _ (get_or xs i 0) i (and_from _ _ e (lt-ltb i n h))
-
--- a list is no order of another number of variables
-pub no_order : (m n : ℕ) (xs : List ℕ) → is_order m xs ≡ true → (n ≡ m → ⊥) → is_order n xs ≡ false
-no_order m n xs e d = not-true _ ((Decides-not _ (is_order_tells n xs)).1 (λ t. d (sym t.0 ∙ ((is_order_tells m xs).0 e).0)))
 
 -- a list that is no order leaves each variable in its place
 pub order_none : (n : ℕ) (xs : List ℕ) → is_order n xs ≡ false → (i : ℕ) → order_of n xs i ≡ i

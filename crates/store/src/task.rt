@@ -25,12 +25,11 @@ impl Task {
     pub fn check(self, made: usize, variables: u8) -> Result<(), Refusal>
         ensures { result ≡ allowed (names (λ a. nat_lt a (made + 2)) self) (ranges variables self) }
     {
-        let holds = |a: u16| holds(a, made);
         let (operands, within) = match self {
             Task::Variable(i) => (true, i < variables),
-            Task::Not(a) => (holds(a), true),
-            Task::Both(_, a, b) => (holds(a) && holds(b), true),
-            Task::Cofactor(a, i, _) => (holds(a), i < variables),
+            Task::Not(a) => (holds(a, made), true),
+            Task::Both(_, a, b) => (holds(a, made) && holds(b, made), true),
+            Task::Cofactor(a, i, _) => (holds(a, made), i < variables),
         };
         refused(operands, within)
     }

@@ -33,7 +33,7 @@ pub struct Table<'a> {
 const MOST: u8 = 10;
 
 // Whether a table store of n variables can be made in the records.
-// The two stay apart: here the records are only looked at, and `new` takes them.
+// n and the records are two parameters, since here the records are only looked at, and `new` takes them.
 pub fn check(n: u8, records: &[Truths]) -> Result<(), Unfit>
     ensures { result ≡ fitting (suits n (length records.now)) }
 {
@@ -64,7 +64,7 @@ impl Store for Table<'_> {
         self.make(task)
     }
 
-    // Each make says this: to say it once, the trait would ask three more methods of every store, of a layer too.
+    // Each make says this: said once, the trait would need the truth of any number, held or not, and that numbers are held in a row.
     fn value(&mut self, a: u16, w: u32) -> Result<bool, Refusal> {
         check_value(a, w, self.list.len(), self.n)?;
         Ok(self.truth(a, w))

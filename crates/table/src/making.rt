@@ -9,7 +9,6 @@ ghost use Rattle.table.specs.Tables.{table};
 
 use super::Table;
 use super::truths::Truths;
-use records::Full;
 use store::bits::{bit, with_bit};
 use store::refusal::Refusal;
 use store::task::{Op, Task};

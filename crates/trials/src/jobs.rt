@@ -60,7 +60,7 @@ fn frames(rt: HostRuntime) {
 }
 
 #[test]
-fn notices(rt: HostRuntime) {
+fn numbers(rt: HostRuntime) {
     let fault = Fault::Description(Misdescription::Circuit(Refusal::Start(7)));
     assert_eq!(rt;
         fault.notice(),

@@ -1,5 +1,5 @@
-use Rattle.std.proofs.Common.{◌≡◌, suc, ◌+◌, ◌/◌, ◌<◌, length, get_or, sym, ap, ◌∙◌, subst, arith}
-use Rattle.circuit.specs.Netlists.{blank, gate, gate_line}
+use Rattle.std.proofs.Common.{◌≡◌, suc, ◌+◌, ◌<◌, length, ap, ◌∙◌, subst, arith}
+use Rattle.circuit.specs.Netlists.{gate, gate_line}
 use Rattle.circuit.specs.Reading.{netlist}
 use Rattle.description.specs.declared.part.Part.TheVariants.{Circuit}
 use Rattle.runs.specs.Valuations.{line_fn}
