@@ -1,6 +1,7 @@
 mod Grown
 mod Remembering
 mod Fields
+mod Operands
 mod Tasks
 mod Twofold
 mod Recalling

@@ -1,7 +1,7 @@
 -- The numbers of a task, and what they give it.
-use Rattle.std.proofs.Common.{◌≡◌, ℕ, zero, suc, ◌+◌, ◌<◌, ◌≤◌, Bool, true, false, not, length, Some, None, Option, refl, ap, ◌∙◌, subst, ap₂, inl, inr, arith}
+use Rattle.std.proofs.Common.{◌≡◌, ℕ, zero, suc, ◌+◌, ◌<◌, ◌≤◌, Bool, true, false, not, length, Some, None, Option, SomeIff, ◌-◌, sym, refl, ap, ◌∙◌, subst, ap₂, inl, inr, arith}
 use mir.Val.{bool_byte}
-use Rattle.std.proofs.lemmas.Bool.{ltb-true, lt-ltb}
+use Rattle.std.proofs.lemmas.Bool.{ltb-true, lt-ltb, and_from}
 use Rattle.store.specs.Tasks.{applied, asked, Posed}
 use Rattle.store.specs.Fun.{bit, fix, fixed, Same}
 use Rattle.store.proofs.Bit.{bit_fixed_same, bit_fixed_other, fixed_lt, fixed_comm}
@@ -67,6 +67,19 @@ module _ (d : Diagram) where
     means = λ w _. subst (λ (j : ℕ). bit j (fixed v false w) ≡ false) e (bit_fixed_same v false w);
   }
 
+  pub half_not : (a v : ℕ) (t : Bool) (r : ℕ) → Posed (showing d) (Not a) → Halved d.n (listed d) a v t r → HalvedTask d (Not a) v t (Not r)
+  half_not a v t r p h = record { posed = (held_number a v t r p.0 h, refl); under = h.under; means = λ w lt. ap not (h.means w lt) }
+
+  pub half_both : (op : Op) (a b v : ℕ) (t : Bool) (r s : ℕ) → Posed (showing d) (Both op a b) → Halved d.n (listed d) a v t r → Halved d.n (listed d) b v t s
+      → HalvedTask d (Both op a b) v t (Both op r s)
+  half_both op a b v t r s p h k =
+      let q = both_held d.n (capacity d) (listed d) op a b p in
+      record {
+        posed = (and_from _ _ (held_number a v t r q.0 h) (held_number b v t s q.1 k), refl);
+        under = let l = h.under in let m = k.under in omega arith;
+        means = λ w lt. ap₂ (applied op) (h.means w lt) (k.means w lt);
+      }
+
   pub half_cofactor : (a i : ℕ) (s : Bool) (v : ℕ) (t : Bool) (r : ℕ) → Posed (showing d) (Cofactor a i s) → v < i → Halved d.n (listed d) a v t r
       → HalvedTask d (Cofactor a i s) v t (Cofactor r i s)
   half_cofactor a i s v t r p l h = record {
@@ -85,3 +98,13 @@ module _ (d : Diagram) where
   settled_both op a b None p q = let l = inner_top a (both_held d.n (capacity d) (listed d) op a b p).0 q.0 in (omega arith, tt)
   settled_both op a b (Some r) p (inl e, m) = let h = number (listed d) a (both_held d.n (capacity d) (listed d) op a b p).0 in (omega arith, omega (arith, ap (top d.n (listed d)) e), (λ w _. m (listed d) w))
   settled_both op a b (Some r) p (inr e, m) = let h = number (listed d) b (both_held d.n (capacity d) (listed d) op a b p).1 in (omega arith, omega (arith, ap (top d.n (listed d)) e), (λ w _. m (listed d) w))
+
+  pub settled_not : (a : ℕ) (r : Option ℕ) → Posed (showing d) (Not a) → SomeIff r (a ≤ 1) (1 - a) → Settled d (Not a) r
+  settled_not a None p q = (inner_top a p.0 (omega (arith, q)), tt)
+  settled_not zero (Some r) p q = rw q.1 (omega arith, omega arith, λ w _. refl)
+  settled_not (suc zero) (Some r) p q = rw q.1 (omega arith, omega arith, λ w _. refl)
+  settled_not (suc (suc a)) (Some r) p q = absurd (omega (arith, q.0))
+
+  -- where the fixed variable is not below the top of the operand, its half is the cofactor
+  pub settled_cofactor : (a i : ℕ) (t : Bool) (r : ℕ) → Posed (showing d) (Cofactor a i t) → Halved d.n (listed d) a i t r → Settled d (Cofactor a i t) (Some r)
+  settled_cofactor a i t r p h = (h.held (number (listed d) a p.0), h.lower, λ w l. sym (h.means w l))

@@ -1,7 +1,7 @@
 -- A function is made by its halves: the low one, then the high one, then both are joined. Each step may find the records full.
-use Rattle.std.proofs.Common.{◌≡◌, ℕ, suc, ◌<◌, Bool, true, false, cond, None, Ok, Err, Result, sym, ◌∙◌, subst, arith}
+use Rattle.std.proofs.Common.{◌≡◌, ℕ, suc, ◌<◌, Bool, true, false, cond, None, Ok, Err, Result, refl, sym, ◌∙◌, subst, arith}
 use Rattle.store.specs.Tasks.{asked, Posed}
-use Rattle.store.specs.Fun.{Fn, Same}
+use Rattle.store.specs.Fun.{Fn, Same, bit}
 use Rattle.nodes.specs.Graph.{value, top}
 use Rattle.nodes.specs.Growth.{Built, Short, Splits, choose}
 use Rattle.nodes.proofs.Build.{built_weaker, built_like, short_weaker, short_like, short_low, short_high, built_both, short_both}
@@ -9,6 +9,7 @@ use Rattle.nodes.proofs.Extend.{ext_trans, top_ext}
 use Rattle.diagram.specs.declared.Diagram.{Diagram}
 use Rattle.records.specs.declared.Full.{Full}
 use Rattle.store.specs.declared.task.Task.{Task}
+use Rattle.store.specs.declared.task.Task.TheVariants.{Variable}
 use Rattle.diagram.specs.Asked.{peak, Before}
 use Rattle.diagram.specs.Making.{Outcome, Making, Makes, Settled, HalvedTask}
 use Rattle.diagram.specs.Shows.{listed, capacity, showing}
@@ -118,3 +119,18 @@ module _ (d : Diagram) (task : Task) (v : ℕ) (off on : Task) (h : Halves d tas
 
       pub join_stops : (e₃ : Diagram) (s t : Full) → Making e₂ e₃ v (choose v (λ u. value (listed e₂) (cond u high low))) (Err s) → Makes d task (Err t) e₃
       join_stops e₃ s t m₃ = let m = joined e₃ (Err s) m₃ in record { vars = m.vars; capacity = m.capacity; outcome = m.outcome }
+
+-- a variable is joined from the constants
+pub made_variable : (d e : Diagram) (i : ℕ) (r : Result ℕ Full) → Making d e i (choose i (λ t. value (listed d) (cond t 1 0))) r → Makes d (Variable i) r e
+made_variable d e i r m = record { vars = m.vars; capacity = m.capacity; outcome = go r m.outcome }
+  where
+    pick : (t : Bool) (w : ℕ) → value (listed d) (cond t 1 0) w ≡ t
+    pick true w = refl
+    pick false w = refl
+
+    same : Same d.n (choose i (λ t. value (listed d) (cond t 1 0))) (bit i)
+    same w _ = pick (bit i w) w
+
+    go : (r : Result ℕ Full) → Outcome d e i (choose i (λ t. value (listed d) (cond t 1 0))) r → Outcome d e i (bit i) r
+    go (Ok r) b = built_like d.n (listed d) (listed e) i _ (bit i) r (λ w l. same w l) b
+    go (Err s) q = (q.0, short_like d.n (listed d) (capacity d) i _ (bit i) same q.1)

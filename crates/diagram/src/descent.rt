@@ -4,11 +4,10 @@ ghost use Rattle.nodes.specs.Graph.{top, value};
 ghost use Rattle.nodes.specs.Growth.{choose};
 ghost use Rattle.diagram.specs.Shows.{listed, showing};
 ghost use Rattle.store.specs.Tasks.{Posed};
-ghost use Rattle.diagram.specs.Asked.{peak, Before};
-ghost use Rattle.diagram.specs.Making.{Making, Makes, Settled, HalvedTask};
+ghost use Rattle.diagram.specs.Making.{Making, Makes};
 
 use super::Diagram;
-use super::operator::by_sides;
+use super::kinds::{Apply, Complement, Expand, Restrict};
 use nodes::Node;
 use records::Full;
 use store::task::Task;
@@ -32,50 +31,24 @@ impl Diagram<'_> {
         Ok(self.nodes.find_or_add(node)? as u16 + 2)
     }
 
-    // The number of the task's function where a constant or the fixed variable gives it.
-    // It asks that the task is posed, as `half` and `make` do: a type that says so would hold the diagram, which grows between the halves.
-    fn at_once(&self, task: Task) -> Option<u16>
-        requires { Posed (showing self.now) task }
-        ensures { Settled self.now task result }
+    // The number of the function that a task asks for, by its halves.
+    fn descend<T: Expand>(&mut self, kind: T) -> Result<u16, Full>
+        requires { Posed (showing self.old) (T.asks kind) }
+        ensures { Makes self.old (T.asks kind) result self.new }
     {
-        match task {
-            Task::Not(a) if a < 2 => Some(1 - a),
-            Task::Both(op, a, b) => by_sides(op, a, b),
-            Task::Cofactor(a, i, t) if i <= self.top(a) => Some(self.child(a, i, t)),
-            Task::Variable(_) | Task::Not(_) | Task::Cofactor(_, _, _) => None,
+        if let Some(number) = kind.at_once(self) {
+            return Ok(number);
         }
-    }
-
-    // The first variable that the function may depend on.
-    fn peak(&self, task: Task) -> u8
-        ensures { result ≡ peak self.now.n (listed self.now) task }
-    {
-        match task {
-            Task::Variable(i) => i,
-            Task::Not(a) | Task::Cofactor(a, _, _) => self.top(a),
-            Task::Both(_, a, b) => self.top(a).min(self.top(b)),
+        let task = kind.task();
+        if let Some(number) = self.memo.lookup(task) {
+            return Ok(number);
         }
-    }
-
-    // The task with its first variable fixed to t.
-    fn half(&self, task: Task, variable: u8, t: bool) -> Task
-        requires posed { Posed (showing self.now) task }
-        requires below { variable < self.now.n }
-        requires first { variable ≡ peak self.now.n (listed self.now) task }
-        requires before { Before variable task }
-        ensures { HalvedTask self.now task variable t result }
-    {
-        match task {
-            // The constant t.
-            Task::Variable(_) => Task::Not(u16::from(!t)),
-            Task::Not(a) => Task::Not(self.child(a, variable, t)),
-            Task::Both(op, a, b) => {
-                let left = self.child(a, variable, t);
-                let right = self.child(b, variable, t);
-                Task::Both(op, left, right)
-            }
-            Task::Cofactor(a, i, u) => Task::Cofactor(self.child(a, variable, t), i, u),
-        }
+        let (variable, off, on) = kind.expand(self);
+        let low = self.descend(off)?;
+        let high = self.descend(on)?;
+        let number = self.join(variable, low, high)?;
+        self.memo.remember(task, number);
+        Ok(number)
     }
 
     // The number of the function that the task asks for.
@@ -83,19 +56,11 @@ impl Diagram<'_> {
         requires { Posed (showing self.old) task }
         ensures { Makes self.old task result self.new }
     {
-        if let Some(number) = self.at_once(task) {
-            return Ok(number);
+        match task {
+            Task::Variable(i) => self.join(i, 0, 1),
+            Task::Not(a) => self.descend(Complement { a }),
+            Task::Both(op, a, b) => self.descend(Apply { op, a, b }),
+            Task::Cofactor(a, i, t) => self.descend(Restrict { a, i, t }),
         }
-        if let Some(number) = self.memo.lookup(task) {
-            return Ok(number);
-        }
-        let variable = self.peak(task);
-        let off = self.half(task, variable, false);
-        let on = self.half(task, variable, true);
-        let low = self.make(off)?;
-        let high = self.make(on)?;
-        let number = self.join(variable, low, high)?;
-        self.memo.remember(task, number);
-        Ok(number)
     }
 }

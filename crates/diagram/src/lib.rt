@@ -10,6 +10,7 @@ mod answer;
 pub mod calls;
 mod descent;
 pub mod facts;
+mod kinds;
 pub mod making;
 mod memo;
 mod numbers;

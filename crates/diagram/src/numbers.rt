@@ -1,13 +1,40 @@
 // What a diagram knows of its size and of its function numbers.
 ghost use Rattle.std.specs.Prelude.{◌≡◌, ◌+◌, ◌^◌, ◌<◌, ◌≤◌, length};
 ghost use Rattle.store.specs.Meaning.{Lawful};
-ghost use Rattle.nodes.specs.Graph.{node_under, top, value};
-ghost use Rattle.nodes.specs.Growth.{Halved};
+ghost use Rattle.nodes.specs.Graph.{node_under, value};
+ghost use Rattle.diagram.specs.Operands.{operand, half};
 ghost use Rattle.diagram.specs.Shows.{listed, capacity, showing};
 
 use super::Diagram;
 use nodes::Node;
 use store::bits::bit;
+
+// A number with its node, read once; with a leaf where it has none: under the number of variables, and over the number.
+#[derive(Clone, Copy)]
+pub(super) struct Operand {
+    number: u16,
+    node: Node,
+}
+
+impl Operand {
+    // The variable on top of the number, and the number of variables where it has no node.
+    pub(super) fn top(self) -> u8
+        ensures { result ≡ self.node.variable }
+    {
+        self.node.variable
+    }
+
+    // The number where a variable that it has not below its top is fixed to t.
+    pub(super) fn half(self, variable: u8, t: bool) -> u16
+        ensures { result ≡ half self variable t }
+    {
+        if self.node.variable == variable {
+            self.node.child(t)
+        } else {
+            self.number
+        }
+    }
+}
 
 impl Diagram<'_> {
     pub(super) fn used(&self) -> u32
@@ -30,30 +57,25 @@ impl Diagram<'_> {
         1 << self.n
     }
 
-    // The node of a number, and none for a constant and for a number that is not held.
+    // The node of a number, and none for a constant and for a number that is not held. A constant wraps to past every place.
     fn node(&self, a: u16) -> Option<Node>
         ensures { result ≡ node_under (listed self.now) a }
     {
-        let place = a.checked_sub(2)?;
-        self.nodes.get(usize::from(place)).copied()
+        let place = usize::from(a).wrapping_sub(2);
+        self.nodes.get(place).copied()
     }
 
-    // The variable on top of a, and the number of variables where a has no node.
-    pub(super) fn top(&self, a: u16) -> u8
-        ensures { result ≡ top self.now.n (listed self.now) a }
+    pub(super) fn operand(&self, a: u16) -> Operand
+        ensures { result ≡ operand self.now.n (listed self.now) a }
     {
-        self.node(a).map_or(self.n, |node| node.variable)
-    }
-
-    // The number of a with a variable fixed to t that a has not below its top.
-    pub(super) fn child(&self, a: u16, variable: u8, t: bool) -> u16
-        requires below { variable < self.now.n }
-        requires over { variable ≤ top self.now.n (listed self.now) a }
-        ensures { Halved self.now.n (listed self.now) a variable t result }
-    {
-        match self.node(a) {
-            Some(node) if node.variable == variable => node.child(t),
-            _ => a,
+        let leaf = Node {
+            variable: self.n,
+            low: a,
+            high: a,
+        };
+        Operand {
+            number: a,
+            node: self.node(a).unwrap_or(leaf),
         }
     }
 
