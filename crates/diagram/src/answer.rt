@@ -2,7 +2,6 @@
 ghost use Rattle.diagram.specs.Making.{Finishes};
 
 use super::Diagram;
-use super::memo::Memo;
 use records::Full;
 use store::refusal::Refusal;
 
@@ -16,7 +15,7 @@ impl Diagram<'_> {
             return Ok(number);
         }
         self.nodes.truncate(used);
-        self.memo = Memo::new();
+        self.memo.clear();
         Err(Refusal::Room(self.capacity() - self.used()))
     }
 }

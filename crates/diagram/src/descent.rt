@@ -14,6 +14,7 @@ use store::task::Task;
 
 impl Diagram<'_> {
     // The number of the function that is `high` where the variable is true, and else `low`.
+    #[inline(always)]
     fn join(&mut self, variable: u8, low: u16, high: u16) -> Result<u16, Full>
         requires below { variable < self.old.n }
         requires held { (t : Bool) → (if t then high else low) < length (listed self.old) + 2 }

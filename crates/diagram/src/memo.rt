@@ -27,6 +27,7 @@ pub struct Memo {
 }
 
 // The kind of the task and its operands, side by side. No derived hash: a hasher to take it would say the same in more lines.
+#[inline(always)]
 fn key(task: Task) -> u64
     ensures { result ≡ key task }
 {
@@ -41,6 +42,7 @@ fn key(task: Task) -> u64
 }
 
 // The top bits of a product with 2 to the 64 by the golden ratio, which spreads keys that are close.
+#[inline(always)]
 fn place(task: Task) -> usize
     ensures hashed { result ≡ place task }
     ensures within { result < SLOTS }
@@ -58,7 +60,15 @@ impl Memo {
         }
     }
 
+    // Nothing was made: filled where it stands, since a new memo would take its size of the caller's stack.
+    pub fn clear(&mut self)
+        ensures { self.new ≡ all_blank }
+    {
+        self.slots.fill(BLANK);
+    }
+
     // The number of the task, if its place holds this task and not another.
+    #[inline(always)]
     pub fn lookup(&self, task: Task) -> Option<u16>
         ensures { Recalls self.now task result }
     {
@@ -66,6 +76,7 @@ impl Memo {
         (slot.task == task).then_some(slot.number)
     }
 
+    #[inline(always)]
     pub fn remember(&mut self, task: Task, number: u16)
         ensures { self.new ≡ updated self.old task number }
     {

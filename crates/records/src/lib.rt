@@ -53,14 +53,14 @@ impl<'a, T: Entry> List<'a, T> {
     pub fn len(&self) -> usize
         ensures { result ≡ length (entries self.now) }
     {
-        self.capacity().min(self.used)
+        self.used
     }
 
     // The entries.
     fn as_slice(&self) -> &[T]
         ensures { result.now ≡ entries self.now }
     {
-        &self.records[..self.len()]
+        &self.records[..self.used]
     }
 
     // The entry at place i.
@@ -91,7 +91,7 @@ impl<'a, T: Entry> List<'a, T> {
         requires { bucket ≡ T.Entry.hashed item % buckets }
         ensures { Among (entries self.now) item 0 (filed (entries self.now) self.now.index) result }
     {
-        let mut at = self.index.first(bucket).min(self.filed());
+        let mut at = self.index.first(bucket);
         while at > 0 {
             if self.as_slice()[at - 1] == item {
                 return Some(at - 1);

@@ -1,4 +1,4 @@
-ghost use Rattle.std.specs.Prelude.{take};
+ghost use Rattle.std.specs.Prelude.{◌≤◌, length, take};
 ghost use Rattle.records.specs.Orderly.{Orderly};
 
 use crate::entry::Entry;
@@ -10,5 +10,6 @@ pub struct List<'a, T: Entry> {
     pub(crate) records: &'a mut [T],
     pub(crate) used: usize,
     pub(crate) index: Index<'a>,
+    ghost within: { used ≤ length records.now },
     ghost orderly: { ∥ Orderly T.Entry.hashed (take used records.now) index ∥₁ },
 }

@@ -36,7 +36,7 @@ invariant_of-self g c =
     let e = c.len-end.ensures in
     let h = c.from-bucket.ensures ∙ c.hash.ensures in
     let newest = subst (λ n. Newest l.index n (g.T.Entry.hashed x % buckets) c.file.new.self) e (subst (λ n. Newest l.index c.len-end.result (n % buckets) c.file.new.self) h c.file.ensures) in
-    record { orderly = ∥∥₁_map l.orderly (λ f. orderly_more g.T.Entry.hashed xs l.index f _ c.file.new.self x (longer l.records.now l.used c.len-end.result x e c.if-end-self.false) c.in_default.ensures newest (omega (arith, e, c.if-end-limit.true, c.limit.ensures))) }
+    record { within = omega (arith, c.if-end-self.false, length-set l.records.now c.len-end.result x); orderly = ∥∥₁_map l.orderly (λ f. orderly_more g.T.Entry.hashed xs l.index f _ c.file.new.self x (longer l.records.now l.used c.len-end.result x e c.if-end-self.false) c.in_default.ensures newest (omega (arith, e, c.if-end-limit.true, c.limit.ensures))) }
 
 pub invariant_of-self-else-end-limit : goal.invariant_of-self-else-end-limit
 unfolding entries
@@ -45,7 +45,7 @@ invariant_of-self-else-end-limit g c =
     let x = c.args.item in
     let xs = take l.used l.records.now in
     let e = c.len-end.ensures in
-    record { orderly = ∥∥₁_map l.orderly (λ f. orderly_past g.T.Entry.hashed xs l.index f _ l.index x (longer l.records.now l.used c.len-end.result x e c.if-end-self.false) c.in_default.ensures refl (omega (arith, e, c.if-end-limit.false, c.limit.ensures))) }
+    record { within = omega (arith, c.if-end-self.false, length-set l.records.now c.len-end.result x); orderly = ∥∥₁_map l.orderly (λ f. orderly_past g.T.Entry.hashed xs l.index f _ l.index x (longer l.records.now l.used c.len-end.result x e c.if-end-self.false) c.in_default.ensures refl (omega (arith, e, c.if-end-limit.false, c.limit.ensures))) }
 
 pub returns-then-end-limit : goal.returns-then-end-limit
 unfolding entries room

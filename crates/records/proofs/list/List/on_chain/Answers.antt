@@ -1,6 +1,7 @@
 use Rattle.std.proofs.Common.{◌≡◌, ℕ, ◌<◌, ◌-◌, List, length, get_or, Some, sym, refl, ap, ◌∙◌, subst, arith}
 use mathlib.Core.Logic.{∥∥₁_elim}
 use mathlib.Core.HLevel.{⊥_prop}
+use native.Mathlib.Bridge.{le_prop}
 use Rattle.std.specs.List.{slice_get}
 use Rattle.std.proofs.lemmas.Nat.{mod_below}
 use Rattle.std.proofs.lemmas.Option.{slice_get_read}
@@ -11,14 +12,13 @@ use Rattle.records.proofs.Chains.{chained-below, chained-next}
 use Rattle.records.proofs.list.List.on_chain.Goals as goal
 
 pub loop-at-init : goal.loop-at-init
+unfolding entries
 loop-at-init g c =
-    let l = c.args.self.now in (
-      omega (arith, c.filed.ensures),
-      λ f k h p.
-          let b = c.args.bucket in
-          let low = f.below b (omega (arith, c.requires, mod_below (g.T.Entry.hashed c.args.item) buckets (omega arith))) in
-          let e : get_or l.index.heads b 0 ≡ c.min-at.result = omega (arith, c.filed.ensures) in
-          subst (λ (n : ℕ). Chained l.index.links.now n k) (ap (λ n. get_or l.index.heads n 0) (sym c.requires) ∙ e) (f.chained k c.args.item h p),
+    let l = c.args.self.now in
+    let b = c.args.bucket in
+    let low : b < buckets = omega (arith, c.requires, mod_below (g.T.Entry.hashed c.args.item) buckets (omega arith)) in (
+      rw c.first-at.ensures (∥∥₁_elim l.orderly le_prop (λ f. f.below b low)),
+      λ f k h p. subst (λ (n : ℕ). Chained l.index.links.now n k) (ap (λ n. get_or l.index.heads n 0) (sym c.requires) ∙ sym c.first-at.ensures) (f.chained k c.args.item h p),
     )
 
 -- the entry at a place

@@ -1,4 +1,4 @@
-use Rattle.std.proofs.Common.{take, refl, ap, ◌∙◌}
+use Rattle.std.proofs.Common.{take, refl, ap, ◌∙◌, arith}
 use mathlib.Core.Logic.{∥∥₁_map}
 use Rattle.records.specs.Contents.{entries, room}
 use Rattle.records.proofs.Contents.{shortened}
@@ -9,7 +9,10 @@ pub invariant_of-self : goal.invariant_of-self
 invariant_of-self g c =
     let l = c.args.self.now in
     let e = ap (λ n. take n l.records.now) c.min-self.ensures ∙ shortened l.records.now l.used c.args.kept in
-    record { orderly = ∥∥₁_map l.orderly (λ f. orderly_cut g.T.Entry.hashed _ _ f _ _ c.args.kept e c.truncate.ensures) }
+    record {
+      within = omega (arith, l.within, c.min-self.ensures);
+      orderly = ∥∥₁_map l.orderly (λ f. orderly_cut g.T.Entry.hashed _ _ f _ _ c.args.kept e c.truncate.ensures);
+    }
 
 pub returns : goal.returns
 unfolding entries room
