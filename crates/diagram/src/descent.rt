@@ -8,9 +8,10 @@ ghost use Rattle.diagram.specs.Making.{Making, Makes};
 
 use super::Diagram;
 use super::kinds::{Apply, Complement, Expand, Restrict};
+use super::operator::{Conjunction, Disjunction};
 use nodes::Node;
 use records::Full;
-use store::task::Task;
+use store::task::{Op, Task};
 
 impl Diagram<'_> {
     // The number of the function that is `high` where the variable is true, and else `low`.
@@ -60,7 +61,18 @@ impl Diagram<'_> {
         match task {
             Task::Variable(i) => self.join(i, 0, 1),
             Task::Not(a) => self.descend(Complement { a }),
-            Task::Both(op, a, b) => self.descend(Apply { op, a, b }),
+            Task::Both(op, a, b) => match op {
+                Op::And => self.descend(Apply {
+                    op: Conjunction,
+                    a,
+                    b,
+                }),
+                Op::Or => self.descend(Apply {
+                    op: Disjunction,
+                    a,
+                    b,
+                }),
+            },
             Task::Cofactor(a, i, t) => self.descend(Restrict { a, i, t }),
         }
     }

@@ -9,8 +9,8 @@ ghost use Rattle.diagram.specs.Making.{Settled, HalvedTask};
 ghost use Rattle.diagram.specs.Shows.{listed, showing};
 
 use super::Diagram;
-use super::operator::by_sides;
-use store::task::{Op, Task};
+use super::operator::{Operator, by_sides};
+use store::task::Task;
 
 pub(super) trait Expand: Copy {
     ghost asks: { Self → Task };
@@ -58,21 +58,21 @@ impl Expand for Complement {
 }
 
 #[derive(Clone, Copy)]
-pub(super) struct Apply {
-    pub op: Op,
+pub(super) struct Apply<O: Operator> {
+    pub op: O,
     pub a: u16,
     pub b: u16,
 }
 
-impl Expand for Apply {
-    ghost asks = { λ x. Both x.op x.a x.b };
+impl<O: Operator> Expand for Apply<O> {
+    ghost asks = { λ x. Both O.OP x.a x.b };
 
     fn task(self) -> Task {
-        Task::Both(self.op, self.a, self.b)
+        Task::Both(O::OP, self.a, self.b)
     }
 
     fn at_once(self, _diagram: &Diagram) -> Option<u16> {
-        by_sides(self.op, self.a, self.b)
+        by_sides(O::OP, self.a, self.b)
     }
 
     fn expand(self, diagram: &Diagram) -> (u8, Self, Self) {

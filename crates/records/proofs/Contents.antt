@@ -12,16 +12,6 @@ use Rattle.records.specs.declared.list.List.{List as Records}
 use Rattle.records.specs.Contents.{entries, room}
 
 module _ {T : Type 0} (records : List T) (used : ℕ) where
-  -- the records up to the number of entries
-  pub in_use : take (length (take used records)) records ≡ take used records
-  in_use =
-      let l = length-take used records in
-      ⊎_elim
-      (λ less. let e : length (take used records) ≡ used = omega arith in ap (λ n. take n records) e)
-      (λ more. let e : length (take used records) ≡ length records = omega arith in
-      take_all _ records (omega arith) ∙ sym (take_all used records more))
-      (cases_lt used (length records))
-
   pub shortened : (kept : ℕ) → take (min used kept) records ≡ take kept (take used records)
   shortened kept = ⊎_elim
       (λ less. let e : min used kept ≡ used = omega arith in

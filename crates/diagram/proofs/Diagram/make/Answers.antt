@@ -7,8 +7,11 @@ returns-in-Variable c = rw c.in-Variable.is (made_variable c.args.self.now c.joi
 pub returns-in-Not : goal.returns-in-Not
 returns-in-Not c = rw c.in-Not.is c.descend.ensures
 
-pub returns-in-Both : goal.returns-in-Both
-returns-in-Both c = rw c.in-Both.is c.descend-in-Both.ensures
+pub returns-in-And : goal.returns-in-And
+returns-in-And c = rw (c.in-Both.is, c.in-And.is) c.descend-in-And.ensures
+
+pub returns-in-Or : goal.returns-in-Or
+returns-in-Or c = rw (c.in-Both.is, c.in-Or.is) c.descend-in-Or.ensures
 
 pub returns-in-Cofactor : goal.returns-in-Cofactor
 returns-in-Cofactor c = rw c.in-Cofactor.is c.descend-in-Cofactor.ensures
