@@ -87,6 +87,7 @@ impl<'a, T: Entry> List<'a, T> {
     }
 
     // The place of an equal entry that is on the chain of its bucket.
+    #[inline(always)]
     fn on_chain(&self, item: T, bucket: usize) -> Option<usize>
         requires { bucket ≡ T.Entry.hashed item % buckets }
         ensures { Among (entries self.now) item 0 (filed (entries self.now) self.now.index) result }
@@ -102,6 +103,7 @@ impl<'a, T: Entry> List<'a, T> {
     }
 
     // The place of an equal entry that is past those on chains.
+    #[inline(always)]
     fn past_chains(&self, item: T) -> Option<usize>
         ensures { Among (entries self.now) item (filed (entries self.now) self.now.index) (length (entries self.now)) result }
     {
@@ -111,6 +113,7 @@ impl<'a, T: Entry> List<'a, T> {
     }
 
     // The lowest place of an equal entry.
+    #[inline(always)]
     fn place(&self, item: T, bucket: usize) -> Option<usize>
         requires { bucket ≡ T.Entry.hashed item % buckets }
         ensures { Finds (entries self.now) item result }
@@ -122,6 +125,7 @@ impl<'a, T: Entry> List<'a, T> {
     }
 
     // The lowest place of an equal entry; else the entry is added at the end, if a record is left.
+    #[inline(always)]
     pub fn find_or_add(&mut self, item: T) -> Result<usize, Full>
         ensures { Places self.old item result self.new }
     {
