@@ -54,6 +54,7 @@ impl Diagram<'_> {
     }
 
     // The number of the function that the task asks for.
+    #[inline(always)]
     pub(super) fn make(&mut self, task: Task) -> Result<u16, Full>
         requires { Posed (showing self.old) task }
         ensures { Makes self.old task result self.new }

@@ -61,6 +61,7 @@ impl Memo {
     }
 
     // Nothing was made: filled where it stands, since a new memo would take its size of the caller's stack.
+    #[cold]
     pub fn clear(&mut self)
         ensures { self.new ≡ all_blank }
     {

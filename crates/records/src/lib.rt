@@ -71,6 +71,7 @@ impl<'a, T: Entry> List<'a, T> {
     }
 
     // Only the first `kept` entries stay.
+    #[cold]
     pub fn truncate(&mut self, kept: usize)
         ensures entries { entries self.new ≡ take kept (entries self.old) }
         ensures room { room self.new ≡ room self.old }

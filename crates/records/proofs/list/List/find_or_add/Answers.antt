@@ -27,25 +27,25 @@ longer : {T : Type 0} (records : List T) (used n : ℕ) (x : T) → n ≡ length
     → take (n + 1) (set records n x) ≡ take used records ++ x ∷ []
 longer records used n x e low = ap (λ m. take (m + 1) (set records m x)) e ∙ pushed records used x (omega (arith, e))
 
-pub invariant_of-self : goal.invariant_of-self
+pub invariant_of-self-clause-orderly : goal.invariant_of-self-clause-orderly
 unfolding entries
-invariant_of-self g c =
+invariant_of-self-clause-orderly g c =
     let l = c.args.self.now in
     let x = c.args.item in
     let xs = take l.used l.records.now in
     let e = c.len-end.ensures in
     let h = c.from-bucket.ensures ∙ c.hash.ensures in
     let newest = subst (λ n. Newest l.index n (g.T.Entry.hashed x % buckets) c.file.new.self) e (subst (λ n. Newest l.index c.len-end.result (n % buckets) c.file.new.self) h c.file.ensures) in
-    record { within = omega (arith, c.if-end-self.false, length-set l.records.now c.len-end.result x); orderly = ∥∥₁_map l.orderly (λ f. orderly_more g.T.Entry.hashed xs l.index f _ c.file.new.self x (longer l.records.now l.used c.len-end.result x e c.if-end-self.false) c.in_default.ensures newest (omega (arith, e, c.if-end-limit.true, c.limit.ensures))) }
+    ∥∥₁_map l.orderly (λ f. orderly_more g.T.Entry.hashed xs l.index f _ c.file.new.self x (longer l.records.now l.used c.len-end.result x e c.if-end-self.false) c.in_default.ensures newest (omega (arith, e, c.if-end-limit.true, c.limit.ensures)))
 
-pub invariant_of-self-else-end-limit : goal.invariant_of-self-else-end-limit
+pub invariant_of-self-else-end-limit-clause-orderly : goal.invariant_of-self-else-end-limit-clause-orderly
 unfolding entries
-invariant_of-self-else-end-limit g c =
+invariant_of-self-else-end-limit-clause-orderly g c =
     let l = c.args.self.now in
     let x = c.args.item in
     let xs = take l.used l.records.now in
     let e = c.len-end.ensures in
-    record { within = omega (arith, c.if-end-self.false, length-set l.records.now c.len-end.result x); orderly = ∥∥₁_map l.orderly (λ f. orderly_past g.T.Entry.hashed xs l.index f _ l.index x (longer l.records.now l.used c.len-end.result x e c.if-end-self.false) c.in_default.ensures refl (omega (arith, e, c.if-end-limit.false, c.limit.ensures))) }
+    ∥∥₁_map l.orderly (λ f. orderly_past g.T.Entry.hashed xs l.index f _ l.index x (longer l.records.now l.used c.len-end.result x e c.if-end-self.false) c.in_default.ensures refl (omega (arith, e, c.if-end-limit.false, c.limit.ensures)))
 
 pub returns-then-end-limit : goal.returns-then-end-limit
 unfolding entries room
