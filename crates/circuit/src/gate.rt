@@ -1,4 +1,4 @@
-ghost use Rattle.std.specs.Prelude.{◌≡◌, ◌/◌, ◌<◌, ◌&&◌, false, length, nat_lt, slice_index_or};
+ghost use Rattle.std.specs.Prelude.{◌≡◌, ◌/◌, ◌&&◌, false, nat_lt, slice_index_or};
 ghost use Rattle.circuit.specs.Lines.{either};
 
 // The and of two literals. Literal 2x is line x, and 2x + 1 is its negation.
