@@ -1,19 +1,14 @@
-// Jobs: the frame that holds a circuit file and two texts, and the report on it.
+// Jobs: the frame that holds a circuit file and two texts.
 #![tactic(auto)]
 
-ghost use Rattle.std.specs.Prelude.{◌≡◌, Some};
+ghost use Rattle.std.specs.Prelude.{◌≡◌};
 ghost use Rattle.job.specs.Frames.{frame, framed};
-ghost use Rattle.job.specs.Reports.{Reports, Only, settled, text};
 
 pub mod fault;
-pub mod report;
 
 use circuit::{number_at, sizes_at};
-use description::describe;
 use description::source::Source;
 use fault::Fault;
-use report::Report;
-use std::fmt;
 
 // How many variables the store of a program has.
 pub const VARIABLES: u8 = 24;
@@ -40,34 +35,4 @@ pub fn split(job: &[u8]) -> Result<Source, Fault>
         assumption,
         property,
     })
-}
-
-fn read_job(job: &[u8]) -> Result<Report, Fault>
-    ensures { Reports job.now (settled result) }
-{
-    let source = split(job)?;
-    let described = describe(source, VARIABLES)?;
-    Ok(Report::Read(described.circuit.sizes()))
-}
-
-// What is to be said of a job.
-pub fn check(job: &[u8]) -> Report
-    ensures right { Reports job.now result }
-    ensures only { Only job.now result }
-{
-    read_job(job).unwrap_or_else(Report::Refused)
-}
-
-impl fmt::Display for Report {
-    ghost output = { λ r. Some (text r) };
-
-    fn fmt<W: fmt::Write>(&self, f: &mut fmt::Formatter<W>) -> fmt::Result {
-        match self {
-            Report::Read(sizes) => write!(f, "{sizes}\naccepted 0\n"),
-            Report::Refused(fault) => {
-                let notice = fault.notice();
-                write!(f, "{notice}\naccepted 0\n")
-            }
-        }
-    }
 }
