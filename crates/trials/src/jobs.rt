@@ -1,5 +1,6 @@
 // Job frames, and what is reported of them.
-use circuit::refusal::{Refusal, Size};
+use circuit::refusal::Refusal;
+use circuit::sort::Sort;
 use circuit::sizes::Sizes;
 use claim::fault::Fault as Misreading;
 use description::fault::Fault as Misdescription;
@@ -55,7 +56,7 @@ fn frames(rt: HostRuntime) {
     job[4] = 0;
     assert_eq!(rt;
         report_on(&job),
-        refused(Misdescription::Circuit(Refusal::Size(Size::Registers)))
+        refused(Misdescription::Circuit(Refusal::Size(Sort::Register)))
     );
 }
 
