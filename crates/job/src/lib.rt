@@ -6,15 +6,16 @@ ghost use Rattle.job.specs.Frames.{frame, framed};
 
 pub mod fault;
 
-use circuit::{number_at, sizes_at};
+use circuit::{MOST_GATES, file_length, number_at, sizes_at};
 use description::source::Source;
 use fault::Fault;
+use store::MOST_VARIABLES;
 
 // How many variables the store of a program has.
-pub const VARIABLES: u8 = 24;
+pub const VARIABLES: u8 = MOST_VARIABLES;
 
 // The bytes of the longest job: the lengths, the circuit file with the most gates, and two longest texts.
-pub const LONGEST: u64 = 4 + (6 + 4 * 1024) + 2 * 512;
+pub const LONGEST: u64 = 4 + (6 + 4 * MOST_GATES as u64) + 2 * claim::LONGEST as u64;
 
 // Cuts a job into the circuit file, the assumption and the property.
 pub fn split(job: &[u8]) -> Result<Source, Fault>
@@ -22,8 +23,7 @@ pub fn split(job: &[u8]) -> Result<Source, Fault>
 {
     let wrong = Fault::Length(job.len());
     let (lengths, parts) = job.split_at_checked(4).ok_or(wrong)?;
-    // The sizes take 6 bytes, and each gate 4.
-    let circuit_length = 6 + 4 * usize::from(sizes_at(parts).gates);
+    let circuit_length = file_length(sizes_at(parts).gates);
     let (circuit, texts) = parts.split_at_checked(circuit_length).ok_or(wrong)?;
     let assumption_length = usize::from(number_at(lengths, 0));
     let (assumption, property) = texts.split_at_checked(assumption_length).ok_or(wrong)?;

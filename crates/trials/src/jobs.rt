@@ -1,5 +1,6 @@
 // Job frames, and the checks of what is in them.
-use circuit::refusal::{Refusal, Size};
+use circuit::refusal::Refusal;
+use circuit::sort::Sort;
 use circuit::sizes::Sizes;
 use claim::fault::Fault as Misreading;
 use decide::fault::Fault;
@@ -64,7 +65,7 @@ fn frames(rt: HostRuntime) {
     job[4] = 0;
     assert_eq!(rt;
         read(&job),
-        refused(Misdescription::Circuit(Refusal::Size(Size::Registers)))
+        refused(Misdescription::Circuit(Refusal::Size(Sort::Register)))
     );
 }
 
