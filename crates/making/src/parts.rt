@@ -27,7 +27,8 @@ pub struct Parts {
 impl Parts {
     // How many registers.
     pub fn registers(&self) -> u8
-        ensures { result ≡ length self.now.copies.items }
+        ensures counts { result ≡ length self.now.copies.items }
+        ensures few { result ≤ 8 }
     {
         self.copies.len() as u8
     }
