@@ -24,7 +24,7 @@ impl Search {
         let mut state = smallest(
             store,
             self.states(),
-            |store, state| self.begins_in(store, self.set, state),
+            |store, state| self.begins_in(store, self.last.set, state),
         )?;
         for &set in self.earlier.iter().rev() {
             let input = smallest(
@@ -54,7 +54,7 @@ impl<S: Store> Session<S> {
         ensures same { world S.Store.shows self.new ≡ world S.Store.shows self.old }
     {
         let search = self.search.as_ref().ok_or(Fault::Empty)?;
-        let Verdict::Unsafe(_) = search.verdict else {
+        let Verdict::Unsafe(_) = search.last.verdict else {
             return Err(Fault::Verdict);
         };
         let entries = search.earlier.len() + 1;
