@@ -5,7 +5,7 @@ ghost use Rattle.uses.specs.Calls.{advance};
 ghost use Rattle.engine.specs.Keeping.{world, searching, Next};
 ghost use Rattle.engine.specs.Advancing.{Advances};
 
-use super::search::Search;
+use super::search::{MOST_ADVANCES, Search};
 use super::session::Session;
 use super::stage::{Stage, verdict_at};
 use description::part::Part;
@@ -17,7 +17,7 @@ use uses::verdict::Verdict;
 impl Search {
     // From the last set the next one, and the verdict with it.
     fn step<S: Store>(&self, store: &mut S) -> Result<Stage, Fault>
-        requires { array_vec_len self.now.earlier < 256 }
+        requires { array_vec_len self.now.earlier < MOST_ADVANCES }
         ensures { Advances (S.Store.shows store.old) self.now result (S.Store.shows store.new) }
     {
         let count = self.earlier.len() as u16;

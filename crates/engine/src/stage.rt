@@ -11,7 +11,7 @@ pub(crate) struct Stage {
     pub(crate) verdict: Verdict,
 }
 
-// The verdict with a set that is new at its depth, from the number of its part in Init.
+// The verdict at a depth where the set is new, from the number of its part in Init.
 pub(crate) fn verdict_at(depth: u16, met: u16) -> Verdict
     ensures { result ≡ cond (met == 0) Open (Unsafe depth) }
 {

@@ -12,7 +12,7 @@ use making::place_at;
 use store::Store;
 
 impl Search {
-    // The truth of a function at a step.
+    // The truth of a function at a step. A refusal is of the call, at no place in it.
     pub(crate) fn truth<S: Store>(
         &self,
         store: &mut S,

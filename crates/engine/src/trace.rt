@@ -64,6 +64,7 @@ impl<S: Store> Session<S> {
             });
         }
         let steps = search.walk(&mut self.store)?;
+        // By index: of a `zip` with two `iter_mut`, `returns-clause-next` stayed open, since after it only the arrays' lengths are known.
         for (i, step) in steps.iter().enumerate() {
             states[i] = step.state;
             inputs[i] = step.input;

@@ -1,4 +1,4 @@
-use Rattle.std.proofs.Common.{◌≡◌, ◌+◌, ◌-◌, ◌*◌, ◌<◌, length, sym, ap, ◌∙◌, subst, arith}
+use Rattle.std.proofs.Common.{◌≡◌, ◌+◌, ◌-◌, ◌*◌, ◌<◌, length, ap, ◌∙◌, subst, arith}
 use Rattle.circuit.specs.Reading.{netlist}
 use Rattle.making.specs.Models.{alone, width}
 use Rattle.making.specs.Making.{ended}
