@@ -1,5 +1,5 @@
-// The decider's job done over BuDDy 2.4: the same input, the same making calls in the same order, the
-// same report (docs/RULES.md). The decider is measured against it, so it expects a job that the rules
+// The checker's job done over BuDDy 2.4: the same input, the same making calls in the same order, the
+// same report (docs/RULES.md). The checker is measured against it, so it expects a job that the rules
 // accept; only a wrong length is refused.
 #include <bdd.h>
 #include <unistd.h>

@@ -1,14 +1,21 @@
 // Reads a job from standard input and writes the report on it.
 #![tactic(auto)]
 
-use job::{LONGEST, check};
+use decide::report_on;
+use diagram::Diagram;
+use job::{LONGEST, VARIABLES};
+use nodes::Node;
 use std::io;
 use std::io::Read;
+
+const RECORDS: usize = 8192;
 
 fn main(rt: HostRuntime) -> io::Result<()> {
     let mut job = Vec::new(rt.alloc());
     // One byte more tells a job that is too long.
     rt.stdin().take(LONGEST + 1).read_to_end(&mut job)?;
-    let report = check(&job);
+    let mut records = [Node::default(); RECORDS];
+    let mut links = [0; RECORDS];
+    let report = report_on(&job, Diagram::new(VARIABLES, &mut records, &mut links));
     print!(rt; "{report}")
 }

@@ -5,7 +5,7 @@ use Rattle.std.proofs.lemmas.Bool.{ltb-false, or_parts}
 use Rattle.std.proofs.lemmas.Bool.Decides.{not_from_Decides}
 use Rattle.circuit.specs.declared.refusal.Refusal.{Refusal}
 use Rattle.circuit.specs.declared.refusal.Refusal.TheVariants.{Length, Size, Width, Wire, Start}
-use Rattle.circuit.specs.declared.refusal.Size.TheVariants.{Registers, Inputs, Gates}
+use Rattle.circuit.specs.declared.sort.Sort.TheVariants as sort
 use Rattle.circuit.specs.Netlists.{Netlist, sizes, init_line}
 use Rattle.circuit.specs.Files.{registers, inputs, count, sizes_at, gate_at, says}
 use Rattle.circuit.specs.Lines.{touching}
@@ -35,9 +35,9 @@ record Passed (width : ℕ) (bs : List ℕ) (c : Netlist) : Type 0 where
 all_passed : (width : ℕ) (bs : List ℕ) (c : Netlist) → reading width bs ≡ Ok c → Passed width bs c
 all_passed width bs c h =
     let a = passed (ltb (length bs) 6) (Length (length bs)) _ c h in
-    let b = passed (outside 1 8 (registers bs)) (Size Registers) _ c a.1 in
-    let d = passed (ltb 8 (inputs bs)) (Size Inputs) _ c b.1 in
-    let e = passed (outside (registers bs + 1) 1024 (count bs)) (Size Gates) _ c d.1 in
+    let b = passed (outside 1 8 (registers bs)) (Size sort.Register) _ c a.1 in
+    let d = passed (ltb 8 (inputs bs)) (Size sort.Input) _ c b.1 in
+    let e = passed (outside (registers bs + 1) 1024 (count bs)) (Size sort.Gate) _ c d.1 in
     let f = passed (not (eqb (length bs) (6 + 4 * count bs))) (Length (length bs)) _ c e.1 in
     let g = passed (ltb width (2 * registers bs + inputs bs)) (Width (2 * registers bs + inputs bs)) _ c f.1 in
     let i = passed (ltb (first_miswired (says bs)) (length (says bs).gates)) (Wire (first_miswired (says bs))) _ c g.1 in

@@ -3,7 +3,7 @@ use Rattle.std.specs.Prelude.{ℕ, Ok, Err, Result}
 use Rattle.circuit.specs.declared.circuit.Circuit.{Circuit}
 use Rattle.circuit.specs.declared.refusal.Refusal.{Refusal}
 use Rattle.circuit.specs.declared.refusal.Refusal.TheVariants.{Length, Size, Width, Wire, Start}
-use Rattle.circuit.specs.declared.refusal.Size.TheVariants.{Registers, Inputs, Gates}
+use Rattle.circuit.specs.declared.sort.Sort.TheVariants as sort
 use Rattle.circuit.specs.Netlists.{Netlist}
 
 abbrev pub netlist : Circuit → Netlist
@@ -22,9 +22,9 @@ number_of (Start g) = 6
 
 abbrev pub place_of : Refusal → ℕ
 place_of (Length b) = b
-place_of (Size Registers) = 0
-place_of (Size Inputs) = 1
-place_of (Size Gates) = 2
+place_of (Size sort.Register) = 0
+place_of (Size sort.Input) = 1
+place_of (Size sort.Gate) = 2
 place_of (Width w) = w
 place_of (Wire g) = g
 place_of (Start g) = g

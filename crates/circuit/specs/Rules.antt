@@ -2,7 +2,7 @@
 use Rattle.std.specs.Prelude.{◌≡◌, ℕ, zero, suc, ◌+◌, ◌-◌, ◌*◌, ◌/◌, ◌<◌, ◌≤◌, Bool, cond, not, ◌&&◌, ◌||◌, List, length, Ok, Err, Decides, Result, ◌==◌, nat_lt}
 use Rattle.circuit.specs.declared.refusal.Refusal.{Refusal}
 use Rattle.circuit.specs.declared.refusal.Refusal.TheVariants.{Length, Size, Width, Wire, Start}
-use Rattle.circuit.specs.declared.refusal.Size.TheVariants.{Registers, Inputs, Gates}
+use Rattle.circuit.specs.declared.sort.Sort.TheVariants as sort
 use Rattle.circuit.specs.Netlists.{Netlist, gate, gate_line, lines, init_line}
 use Rattle.circuit.specs.Lines.{Values, Touches, line, touching}
 use Rattle.circuit.specs.Files.{registers, inputs, count, says}
@@ -56,9 +56,9 @@ checking c =
 abbrev pub reading : ℕ → List ℕ → Result Netlist Refusal
 reading width bs =
     refused_if (nat_lt (length bs) 6) (Length (length bs))
-    (refused_if (outside 1 8 (registers bs)) (Size Registers)
-    (refused_if (nat_lt 8 (inputs bs)) (Size Inputs)
-    (refused_if (outside (registers bs + 1) 1024 (count bs)) (Size Gates)
+    (refused_if (outside 1 8 (registers bs)) (Size sort.Register)
+    (refused_if (nat_lt 8 (inputs bs)) (Size sort.Input)
+    (refused_if (outside (registers bs + 1) 1024 (count bs)) (Size sort.Gate)
     (refused_if (not (length bs == 6 + 4 * count bs)) (Length (length bs))
     (refused_if (nat_lt width (2 * registers bs + inputs bs)) (Width (2 * registers bs + inputs bs))
     (checking (says bs)))))))

@@ -1,7 +1,7 @@
-ghost use Rattle.std.specs.Prelude.{◌≡◌, ◌/◌, ◌<◌, ◌&&◌, false, length, nat_lt, slice_index_or};
+ghost use Rattle.std.specs.Prelude.{◌≡◌, ◌/◌, ◌&&◌, false, nat_lt, slice_index_or};
 ghost use Rattle.circuit.specs.Lines.{either};
 
-// The and of two literals. Literal 2x is line x, and 2x + 1 is its negation.
+// The and of two literals, as the file has them: literal 2x is line x, and 2x + 1 is its negation.
 #[derive(Clone, Copy, Default, PartialEq, Eq, Debug)]
 pub struct Gate {
     pub left: u16,

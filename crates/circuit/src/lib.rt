@@ -1,7 +1,7 @@
 // Circuit files: read, or refused with the first fault.
 #![tactic(auto)]
 
-ghost use Rattle.std.specs.Prelude.{◌≡◌, ℕ, IfOk, Err, MatchResult};
+ghost use Rattle.std.specs.Prelude.{◌≡◌, ℕ, ◌+◌, ◌*◌, IfOk, Err, MatchResult};
 ghost use Rattle.circuit.specs.Files.{number_at, sizes_at};
 ghost use Rattle.circuit.specs.Netlists.{Netlist};
 ghost use Rattle.circuit.specs.Reading.{netlist, answered};
@@ -13,17 +13,19 @@ pub mod gate;
 mod netlist;
 pub mod refusal;
 pub mod sizes;
+pub mod sort;
 
 use circuit::Circuit;
 use netlist::Netlist;
-use refusal::{Refusal, Size};
+use refusal::Refusal;
 use sizes::Sizes;
+use sort::Sort;
 
 pub const MOST_REGISTERS: usize = 8;
 
 pub const MOST_INPUTS: usize = 8;
 
-const MOST_GATES: usize = 1024;
+pub const MOST_GATES: usize = 1024;
 
 // False, the registers, the inputs and the gates.
 pub const MOST_LINES: usize = 1 + MOST_REGISTERS + MOST_INPUTS + MOST_GATES;
@@ -49,6 +51,13 @@ pub fn sizes_at(file: &[u8]) -> Sizes
     }
 }
 
+// How many bytes a file of so many gates has: 6 for the sizes, and 4 for each gate.
+pub fn file_length(gates: u16) -> usize
+    ensures { result ≡ 6 + 4 * gates }
+{
+    6 + 4 * usize::from(gates)
+}
+
 fn read_sizes(file: &[u8]) -> Result<Sizes, Refusal>
     ensures { MatchResult result (Sized file.now) (λ e. (width : ℕ) → reading width file.now ≡ Err e) }
 {
@@ -57,13 +66,13 @@ fn read_sizes(file: &[u8]) -> Result<Sizes, Refusal>
     }
     let sizes = sizes_at(file);
     if !(1..=MOST_REGISTERS as u16).contains(&sizes.registers) {
-        return Err(Refusal::Size(Size::Registers));
+        return Err(Refusal::Size(Sort::Register));
     }
     if sizes.inputs > MOST_INPUTS as u16 {
-        return Err(Refusal::Size(Size::Inputs));
+        return Err(Refusal::Size(Sort::Input));
     }
     if !(sizes.registers + 1..=MOST_GATES as u16).contains(&sizes.gates) {
-        return Err(Refusal::Size(Size::Gates));
+        return Err(Refusal::Size(Sort::Gate));
     }
     Ok(sizes)
 }
@@ -75,7 +84,7 @@ pub fn read(file: &[u8], width: u8) -> Result<Circuit, Refusal>
     ensures determined { IfOk result (λ c. Determined (netlist c)) }
 {
     let sizes = read_sizes(file)?;
-    if file.len() != 6 + 4 * usize::from(sizes.gates) {
+    if file.len() != file_length(sizes.gates) {
         return Err(Refusal::Length(file.len()));
     }
     let needed = (2 * sizes.registers + sizes.inputs) as u8;

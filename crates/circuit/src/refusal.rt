@@ -1,21 +1,15 @@
 ghost use Rattle.std.specs.Prelude.{◌≡◌};
 ghost use Rattle.circuit.specs.Reading.{number_of, place_of};
 
-// A size of a circuit, by its place in the file.
-#[derive(Clone, Copy, PartialEq, Eq, Debug)]
-pub enum Size {
-    Registers,
-    Inputs,
-    Gates,
-}
+use super::sort::Sort;
 
 // Why a circuit file is refused, with the place of the fault.
 #[derive(Clone, Copy, PartialEq, Eq, Debug)]
 pub enum Refusal {
     // The file has this many bytes, too few or not as many as its sizes say.
     Length(usize),
-    // The first size out of range.
-    Size(Size),
+    // The first size out of range; its place is that in the file.
+    Size(Sort),
     // The store has fewer variables than these.
     Width(u8),
     // A literal of this gate names its own line or a later one.
@@ -44,7 +38,7 @@ impl Refusal {
     {
         match self {
             Refusal::Length(bytes) => bytes,
-            Refusal::Size(size) => size as usize,
+            Refusal::Size(sort) => sort as usize,
             Refusal::Width(variables) => usize::from(variables),
             Refusal::Wire(gate) | Refusal::Start(gate) => usize::from(gate),
         }

@@ -3,7 +3,7 @@ use Rattle.std.proofs.Common.{◌≡◌, ℕ, ◌+◌, ◌<◌, ◌≤◌, Bool,
 use mathlib.Core.Logic.{∥∥₁_elim}
 use native.Mathlib.Bridge.{le_prop}
 use Rattle.std.proofs.lemmas.List.{at_drop_more, at_drop_all, length-reverse, reverse-reverse}
-use Rattle.claim.specs.declared.code.Sort.{Sort}
+use Rattle.circuit.specs.declared.sort.Sort.{Sort}
 use Rattle.claim.specs.declared.code.Code.{Code}
 use Rattle.claim.specs.declared.codes.Codes.{Codes}
 use Rattle.claim.specs.Grammar.{Tree, post}

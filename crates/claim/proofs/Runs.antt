@@ -1,7 +1,7 @@
 -- The machine over many tokens.
 use Rattle.std.proofs.Common.{◌≡◌, ℕ, ◌+◌, ◌<◌, ◌≤◌, cond, ltb, ◌⊎◌, List, [], ◌∷◌, ◌++◌, Some, None, Ok, Err, Option, Result, sym, refl, ap, ◌∙◌, subst, inl, inr, ⊎_elim, arith}
 use Rattle.std.proofs.lemmas.Bool.Decides.{nat_tests}
-use Rattle.claim.specs.declared.code.Sort.{Sort}
+use Rattle.circuit.specs.declared.sort.Sort.{Sort}
 use Rattle.circuit.specs.declared.sizes.Sizes.{Sizes}
 use Rattle.claim.specs.declared.fault.Fault.{Fault}
 use Rattle.claim.specs.declared.fault.Fault.TheVariants.{Claim, Name, Deep}

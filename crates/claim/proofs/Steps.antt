@@ -1,7 +1,7 @@
 -- How what one reader read joins what another did.
 use Rattle.std.proofs.Common.{◌≡◌, ℕ, ◌+◌, ◌-◌, ◌*◌, ◌<◌, ◌≤◌, Bool, List, [], ◌∷◌, ◌++◌, length, None, Ok, Err, Result, sym, refl, ap, ◌∙◌, subst, append_assoc, append-nil, arith, length-append, Bor, MatchResult, IsErrAnd}
 use Rattle.std.proofs.lemmas.Bool.Decides.{nat_tests}
-use Rattle.claim.specs.declared.code.Sort.{Sort}
+use Rattle.circuit.specs.declared.sort.Sort.{Sort}
 use Rattle.claim.specs.declared.code.Act.TheVariants as act
 use Rattle.claim.specs.declared.code.Code.{Code}
 use Rattle.circuit.specs.declared.sizes.Sizes.{Sizes}

@@ -1,6 +1,6 @@
 -- When a text is read, and where it is at fault.
 use Rattle.std.specs.Prelude.{◌≡◌, ℕ, ◌+◌, ◌<◌, ◌≤◌, List, [], ◌∷◌, ◌++◌, length}
-use Rattle.claim.specs.declared.code.Sort.{Sort}
+use Rattle.circuit.specs.declared.sort.Sort.{Sort}
 use Rattle.circuit.specs.declared.sizes.Sizes.{Sizes}
 use Rattle.claim.specs.declared.fault.Fault.{Fault}
 use Rattle.claim.specs.declared.fault.Fault.TheVariants.{Claim, Name, Deep}

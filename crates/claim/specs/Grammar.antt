@@ -1,7 +1,7 @@
 -- The grammar of claims, over tokens with their places.
 use Rattle.std.specs.Prelude.{ℕ, ◌+◌, ◌-◌, ◌*◌, ◌<◌, Bool, List, [], ◌∷◌, ◌++◌}
-use Rattle.claim.specs.declared.code.Sort.{Sort}
-use Rattle.claim.specs.declared.code.Sort.TheVariants.{Register, Input, Gate}
+use Rattle.circuit.specs.declared.sort.Sort.{Sort}
+use Rattle.circuit.specs.declared.sort.Sort.TheVariants.{Register, Input, Gate}
 use Rattle.claim.specs.declared.code.Act.{Act}
 use Rattle.claim.specs.declared.code.Act.TheVariants.{Constant, Name, Not, And, Or}
 use Rattle.claim.specs.declared.code.Code.{Code}

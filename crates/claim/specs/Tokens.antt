@@ -1,7 +1,7 @@
 -- The tokens of a text. A text is a list of bytes, and a place counts bytes from 0.
 use Rattle.std.specs.Prelude.{ℕ, zero, suc, ◌+◌, Bool, true, false, cond, ◌&&◌, List, [], ◌∷◌, length, ◌==◌, nat_le}
-use Rattle.claim.specs.declared.code.Sort.{Sort}
-use Rattle.claim.specs.declared.code.Sort.TheVariants.{Register, Input, Gate}
+use Rattle.circuit.specs.declared.sort.Sort.{Sort}
+use Rattle.circuit.specs.declared.sort.Sort.TheVariants.{Register, Input, Gate}
 
 pub data Kind : Type 0 where
   bang : Kind

@@ -1,7 +1,7 @@
 -- What a claim comes to, by any operations on any values, and the run of its codes over a stack.
 use Rattle.std.specs.Prelude.{ℕ, Bool, false, not, ◌&&◌, ◌||◌, List, [], ◌∷◌, slice_index_or}
-use Rattle.claim.specs.declared.code.Sort.{Sort}
-use Rattle.claim.specs.declared.code.Sort.TheVariants.{Register, Input, Gate}
+use Rattle.circuit.specs.declared.sort.Sort.{Sort}
+use Rattle.circuit.specs.declared.sort.Sort.TheVariants.{Register, Input, Gate}
 use Rattle.claim.specs.declared.code.Act.{Act}
 use Rattle.claim.specs.declared.code.Act.TheVariants.{Constant, Name, Not, And, Or}
 use Rattle.claim.specs.declared.code.Code.{Code}

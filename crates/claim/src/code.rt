@@ -1,10 +1,5 @@
 // What a claim is read into.
-#[derive(Clone, Copy, PartialEq, Eq, Debug)]
-pub enum Sort {
-    Register,
-    Input,
-    Gate,
-}
+pub use circuit::sort::Sort;
 
 // What a code does to a stack: it puts a value on top, or an operator takes its operands from there.
 #[derive(Clone, Copy, PartialEq, Eq, Debug, Default)]

@@ -10,7 +10,8 @@ use crate::code::*;
 use crate::codes::Codes;
 use arrayvec::ArrayVec;
 
-// The truths of the registers, inputs and gates; a missing one is false.
+// The truths of the registers, inputs and gates; a missing one is false. Not one type with the sizes, which have three numbers:
+// a generic one would be called by neither's name.
 #[derive(Clone, Copy)]
 pub struct Valuation<'a> {
     pub registers: &'a [bool],

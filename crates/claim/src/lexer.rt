@@ -1,6 +1,5 @@
 // Cuts a claim's text into tokens.
 ghost use Rattle.std.specs.Prelude.{◌≡◌, ℕ, ◌≤◌, Bool, length, ◌≢◌};
-ghost use Rattle.std.specs.Iterator.{ActsAsAt};
 ghost use Rattle.std.specs.List.{prefix_len};
 ghost use Rattle.claim.specs.Tokens.{class, digits, name_of};
 ghost use Rattle.claim.specs.Seen.{kind_of, class_of, Lexed};

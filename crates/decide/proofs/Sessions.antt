@@ -1,11 +1,11 @@
 -- What one call of a session gives, where some use led to it.
-use Rattle.std.proofs.Common.{◌≡◌, ℕ, suc, ◌^◌, ◌<◌, ◌≤◌, Bool, Option, None, Some, ◌⊎◌, List, [], ◌∷◌, length, IsErrAnd, Ok, Err, Result, sym, refl, ap, ◌∙◌, subst, inl, inr, arith, pow_mono, MatchOption, MatchResult}
+use Rattle.std.proofs.Common.{◌≡◌, ℕ, suc, ◌^◌, ◌<◌, ◌≤◌, Bool, Option, None, Some, ◌⊎◌, List, [], ◌∷◌, length, IsErrAnd, Ok, Err, Result, sym, refl, ap, ◌∙◌, subst, inl, inr, ⊎_elim, arith, pow_mono, MatchOption, MatchResult}
 use Rattle.std.proofs.lemmas.Result.{err_from_is_err_and}
 use Rattle.store.specs.Meaning.{Shown}
 use Rattle.description.specs.Checks.{Checked, right}
 use Rattle.description.specs.declared.fault.Fault.{Fault as Misdescription}
 use Rattle.making.specs.declared.fault.Fault.{Fault as Refusal}
-use Rattle.making.specs.declared.fault.Fault.TheVariants.{Description}
+use Rattle.making.specs.declared.fault.Fault.TheVariants.{Description, Empty}
 use Rattle.making.specs.Making.{Item, Stops}
 use Rattle.making.specs.Loads.{load_list}
 use Rattle.runs.specs.Models.{Model, Valid, system, Describes}
@@ -15,13 +15,14 @@ use Rattle.runs.proofs.Verdicts.{verdicts}
 use Rattle.uses.specs.declared.verdict.Verdict.{Verdict}
 use Rattle.uses.specs.declared.verdict.Verdict.TheVariants as answer
 use Rattle.uses.specs.Calls.{State, empty, loaded, tell, told, Call, load, advance, ask, trace, inside, Stand, stand, Event, event, written}
-use Rattle.uses.specs.Uses.{room, Step, load_wrong, load_full, loads, advance_settled, advance_full, advances, asks, trace_verdict, trace_short, traces, inside_verdict, inside_state, insides, Use, went_on}
-use Rattle.uses.proofs.Told.{tell_safe, tell_open, tell_unsafe}
+use Rattle.uses.specs.Uses.{room, Step, load_wrong, load_full, loads, advance_empty, advance_settled, advance_full, advances, asks, trace_verdict, trace_short, traces, inside_verdict, inside_state, insides, Use, went_on}
+use Rattle.uses.specs.Uses as uses
+use Rattle.uses.proofs.Told.{never, tell_safe, tell_open, tell_unsafe}
 use Rattle.uses.proofs.Uses.{closed, come}
 use Rattle.engine.specs.declared.search.Search.{Search}
 use Rattle.engine.specs.Keeping.{World, Sets, Keeps, Next}
 use Rattle.decide.specs.Reports.{Searched, begun, advanced}
-use Rattle.decide.specs.Searches.{Come, Short, Decided}
+use Rattle.decide.specs.Searches.{Come, Short}
 
 -- the latest event of a use was a step
 last_step : {w v u : Stand} {c : Call} {h : List Event} → Use (event w c v ∷ h) u → Step w c v
@@ -49,6 +50,19 @@ pub loaded_by : {x a p : List ℕ} {r : Result Verdict Refusal} (s : Shown) (w v
 loaded_by {x = x} {a = a} {p = p} {r = r} s w v e u k n =
     let z = n [] empty u k in
     subst (λ i. MatchResult r (λ y. Began i x a p y v) (Unbegun i x a p)) e (loading v z.0 (last_step z.1) z.1 z.2)
+
+module _ (w v : World) (k : Keeps empty w) where
+  asking : {s : Shown} {x : Stand} {r : Verdict} → Step (stand empty s) (ask r) x → r ≡ answer.Empty
+  asking asks = refl
+
+  pub asked_empty : {r : Verdict} → Next w (ask r) v → r ≡ answer.Empty
+  asked_empty n = asking (last_step (n [] empty uses.begun k).1)
+
+  refusing : {s : Shown} {x : Stand} {r : Result Verdict Refusal} → Step (stand empty s) (advance r) x → r ≡ Err Empty
+  refusing advance_empty = refl
+
+  pub refused_empty : {r : Result Verdict Refusal} → Next w (advance r) v → r ≡ Err Empty
+  refused_empty n = refusing (last_step (n [] empty uses.begun k).1)
 
 module _ (s : Shown) (m : Model) (j : ℕ) where
   advancing : {t : Shown} {r : Result Verdict Refusal} {h : List Event} (v : World) (st : State)
@@ -109,15 +123,20 @@ module _ (s : Shown) (m : Model) (j : ℕ) where
   valid_of t None k = absurd k
   valid_of t (Some x) k = k.valid
 
-  -- a search of at most 8 registers settles within 256 advances
-  pub settles_by : (w : World) → Come s m j w → verdict (system m) j ≡ open_yet → 256 ≤ j → ⊥
-  settles_by w c o l =
-      let few = ((verdicts (system m) (closed m) j (come c.led).0).openly o).few in
+  -- a search of at most 8 registers makes at most 256 advances
+  pub few_advances : (w : World) → Come s m j w → j ≤ 256
+  few_advances w c =
+      let few = (verdicts (system m) (closed m) j (come c.led).0).few in
       let bound : 2 ^ m.circuit.registers ≤ 2 ^ 8 = pow_mono (valid_of w.store w.search c.keeps).circuit.few_registers in
       omega arith
 
-pub told_open : (m : Model) (j : ℕ) (v : Verdict) → v ≡ told (loaded m j) → v ≡ answer.Open → verdict (system m) j ≡ open_yet
-told_open m j v e o = tell_open (verdict (system m) j) (sym e ∙ o)
+not_empty : (v : search.Verdict) → tell v ≡ answer.Empty → ⊥
+not_empty (unsafe d) e = never (cc)
+not_empty safe e = never (cc)
+not_empty open_yet e = never (cc)
+
+pub told_open : (m : Model) (j : ℕ) (v : Verdict) → v ≡ told (loaded m j) → (v ≡ answer.Empty) ⊎ (v ≡ answer.Open) → verdict (system m) j ≡ open_yet
+told_open m j v e = ⊎_elim (λ o. absurd (not_empty (verdict (system m) j) (sym e ∙ o))) (λ o. tell_open (verdict (system m) j) (sym e ∙ o))
 
 pub told_safe : (m : Model) (j : ℕ) (v : Verdict) → v ≡ told (loaded m j) → v ≡ answer.Safe → verdict (system m) j ≡ safe
 told_safe m j v e o = tell_safe (verdict (system m) j) (sym e ∙ o)
@@ -126,18 +145,6 @@ pub told_unsafe : (s : Shown) (m : Model) (j d : ℕ) (w : World) (v : Verdict) 
 told_unsafe s m j d w v c e o =
     let h = tell_unsafe (verdict (system m) j) d (sym e ∙ o) in
     h ∙ ap unsafe ((verdicts (system m) (closed m) j (come c.led).0).unsafely d h).0
-
-pub not_open : (m : Model) (j : ℕ) (v : Verdict) → v ≡ told (loaded m j) → (v ≡ answer.Open → ⊥) → verdict (system m) j ≡ open_yet → ⊥
-not_open m j v e n o = n (e ∙ ap tell o)
-
--- a verdict that is told and is not open is settled
-pub decided : (m : Model) (j : ℕ) (v : Verdict) → v ≡ told (loaded m j) → (verdict (system m) j ≡ open_yet → ⊥) → Decided v
-decided m j v e n = by (verdict (system m) j) refl e
-  where
-    by : (x : search.Verdict) → verdict (system m) j ≡ x → v ≡ tell x → Decided v
-    by (unsafe d) h e = subst Decided (sym e) tt
-    by safe h e = subst Decided (sym e) tt
-    by open_yet h e = absurd (n h)
 
 -- what a refused `?` hands on
 pub handed_on : {X E : Type 0} (P : X → Type 0) (Q : E → Type 0) (r : Result X E) (e : E) → IsErrAnd r (λ y. y ≡ e) → Q e → MatchResult r P Q

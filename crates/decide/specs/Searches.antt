@@ -6,15 +6,15 @@ use Rattle.making.specs.declared.fault.Fault.{Fault as Refusal}
 use Rattle.making.specs.Making.{Item, Stops}
 use Rattle.making.specs.Loads.{advance_list}
 use Rattle.runs.specs.Models.{Model, system, sizes}
-use Rattle.runs.specs.Search.{unsafe, safe, open_yet, verdict}
-use Rattle.uses.specs.declared.verdict.Verdict.{Verdict}
-use Rattle.uses.specs.declared.verdict.Verdict.TheVariants as answer
-use Rattle.uses.specs.Calls.{loaded, told, stand, Event}
+use Rattle.runs.specs.Search.{Verdict, unsafe, safe, open_yet, verdict}
+use Rattle.uses.specs.Calls.{loaded, stand, Event}
 use Rattle.uses.specs.Uses.{room, Use}
 use Rattle.engine.specs.Keeping.{World, Keeps}
 use Rattle.decide.specs.declared.fault.Fault.{Fault}
 use Rattle.decide.specs.declared.report.Report.{Report}
 use Rattle.decide.specs.declared.report.Report.TheVariants as report
+use Rattle.decide.specs.declared.settled.Settled.{Settled}
+use Rattle.decide.specs.declared.settled.Settled.TheVariants as settled
 use Rattle.decide.specs.declared.trace.Trace.{Trace}
 use Rattle.decide.specs.Traces.{depth_of}
 use Rattle.decide.specs.Reports.{Searched, insides, Traced}
@@ -42,21 +42,24 @@ pub record Short (s : Shown) (m : Model) (e : Refusal) : Type 0 where
   pub stops : Stops before (advance_list m depth) item after
   pub is : e ≡ room item after
 
--- the verdict is safe or unsafe
-abbrev pub Decided : Verdict → Type 0
-Decided answer.Empty = ⊥
-Decided answer.Open = ⊥
-Decided answer.Safe = Unit {0}
-Decided (answer.Unsafe d) = Unit {0}
+-- how many advances were made
+abbrev pub advances : Settled → ℕ
+advances (settled.Safe d) = d.advances
+advances (settled.Unsafe d) = d.advances
 
--- the search has come to B_j, and its verdict is settled
-pub record Ended (s : Shown) (m : Model) (j : ℕ) (v : World) : Type 0 where
-  pub come : Come s m j v
-  pub settled : verdict (system m) j ≡ open_yet → ⊥
+-- the verdict that was settled on
+abbrev pub settled_on : Settled → Verdict
+settled_on (settled.Safe d) = safe
+settled_on (settled.Unsafe d) = unsafe d.advances
+
+-- the search has come to B_j, whose verdict is this one
+pub record Ended (s : Shown) (m : Model) (a : Settled) (v : World) : Type 0 where
+  pub come : Come s m (advances a) v
+  pub settled : verdict (system m) (advances a) ≡ settled_on a
 
 -- from B_0 to a settled verdict
-abbrev pub Settles : World → Verdict → Result ℕ Refusal → World → Type 0
-Settles w first r v = (s : Shown) (m : Model) → Come s m 0 w → first ≡ told (loaded m 0) → MatchResult r (λ j. Ended s m j v) (Short s m)
+abbrev pub Settles : World → Result Settled Refusal → World → Type 0
+Settles w r v = (s : Shown) (m : Model) → Come s m 0 w → MatchResult r (λ a. Ended s m a v) (Short s m)
 
 abbrev pub CountsInside : World → ℕ → Result ℕ Refusal → Type 0
 CountsInside w n r = (s : Shown) (m : Model) (j : ℕ) → Come s m j w → verdict (system m) j ≡ safe → n ≡ m.circuit.registers → r ≡ Ok (insides m j)
@@ -69,5 +72,5 @@ pub data Conclusion (m : Model) (j : ℕ) : Report → Type 0 where
   is_safe : verdict (system m) j ≡ safe → Conclusion m j (report.Safe (sizes m.circuit) j (insides m j))
   is_unsafe : {x : Trace} → depth_of x ≡ j → verdict (system m) j ≡ unsafe j → Traced m x → Conclusion m j (report.Unsafe (sizes m.circuit) x)
 
-abbrev pub Concludes : World → List ℕ → ℕ → Verdict → Result Report Refusal → Type 0
-Concludes w file j a r = (s : Shown) (m : Model) → Come s m j w → a ≡ told (loaded m j) → sizes_at file ≡ sizes m.circuit → MatchResult r (Conclusion m j) (λ _. ⊥)
+abbrev pub Concludes : World → List ℕ → Settled → Result Report Refusal → Type 0
+Concludes w file a r = (s : Shown) (m : Model) → Ended s m a w → sizes_at file ≡ sizes m.circuit → MatchResult r (Conclusion m (advances a)) (λ _. ⊥)

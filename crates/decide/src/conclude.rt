@@ -2,16 +2,16 @@
 ghost use Rattle.std.specs.Prelude.{◌≤◌};
 ghost use Rattle.circuit.specs.Files.{registers};
 ghost use Rattle.engine.specs.Keeping.{world};
-ghost use Rattle.decide.specs.Searches.{CountsInside, HandsOut, Decided, Concludes};
+ghost use Rattle.decide.specs.Searches.{CountsInside, HandsOut, Concludes};
 
 use super::report::Report;
+use super::settled::{Depth, Settled};
 use super::trace::Trace;
 use circuit::sizes_at;
 use engine::search::MOST_STEPS;
 use engine::session::Session;
 use making::fault::Fault;
 use store::Store;
-use uses::verdict::Verdict;
 
 // How many of the states are inside.
 fn count_inside<S: Store>(session: &mut Session<S>, registers: u16) -> Result<u16, Fault>
@@ -27,44 +27,39 @@ fn count_inside<S: Store>(session: &mut Session<S>, registers: u16) -> Result<u1
     Ok(count)
 }
 
-fn read_trace<S: Store>(session: &mut Session<S>, depth: u16) -> Result<Trace, Fault>
-    requires { depth ≤ 256 }
-    ensures { HandsOut (world S.Store.shows session.old) depth result }
+fn read_trace<S: Store>(session: &mut Session<S>, depth: Depth) -> Result<Trace, Fault>
+    ensures { HandsOut (world S.Store.shows session.old) depth.advances result }
 {
     // Two arrays, by the rule of the call: a session fills two that are lent.
     let mut states = [0; MOST_STEPS];
     let mut inputs = [0; MOST_STEPS];
     session.trace(&mut states, &mut inputs)?;
-    let count = usize::from(depth) + 1;
+    let count = usize::from(depth.advances) + 1;
     Ok(Trace::of(&states[..count], &inputs[..count]))
 }
 
-// The report on a job with this circuit file, whose search has settled after so many advances.
+// The report on a job with this circuit file, whose search has settled.
 pub(crate) fn conclude<S: Store>(
     session: &mut Session<S>,
     file: &[u8],
-    depth: u16,
-    verdict: Verdict,
+    settled: Settled,
 ) -> Result<Report, Fault>
-    requires few { registers file.now ≤ 8 }
-    requires short { depth ≤ 256 }
-    requires decided { Decided verdict }
-    ensures { Concludes (world S.Store.shows session.old) file.now depth verdict result }
+    requires { registers file.now ≤ 8 }
+    ensures { Concludes (world S.Store.shows session.old) file.now settled result }
 {
     let sizes = sizes_at(file);
-    match verdict {
-        Verdict::Safe => {
+    match settled {
+        Settled::Safe(depth) => {
             let inside = count_inside(session, sizes.registers)?;
             Ok(Report::Safe {
                 sizes,
-                depth,
+                depth: depth.advances,
                 inside,
             })
         }
-        Verdict::Unsafe(_) => {
+        Settled::Unsafe(depth) => {
             let trace = read_trace(session, depth)?;
             Ok(Report::Unsafe { sizes, trace })
         }
-        Verdict::Empty | Verdict::Open => unreachable(),
     }
 }

@@ -8,6 +8,7 @@ mod conclude;
 pub mod fault;
 pub mod report;
 pub mod search;
+pub mod settled;
 pub mod text;
 pub mod trace;
 
@@ -24,10 +25,9 @@ fn run<S: Store + Drop>(job: &[u8], store: S) -> Result<Report, Fault>
 {
     let source = split(job)?;
     let mut session = Session::new(store);
-    let first = session.load(source)?;
-    let depth = settle(&mut session, first)?;
-    let verdict = session.verdict();
-    Ok(conclude(&mut session, source.circuit, depth, verdict)?)
+    session.load(source)?;
+    let settled = settle(&mut session)?;
+    Ok(conclude(&mut session, source.circuit, settled)?)
 }
 
 // What is to be said of a job, whatever its bytes, by a search in the store.

@@ -2,7 +2,7 @@ use super::fault::Fault;
 use super::trace::Trace;
 use circuit::sizes::Sizes;
 
-// What is said of a job.
+// What is said of a job. No `Result`: its text is its `Display`, and a refusal is a report as well.
 #[derive(Drop)]
 pub enum Report {
     // After so many advances; so many states are inside.

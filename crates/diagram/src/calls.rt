@@ -24,6 +24,7 @@ impl Store for Diagram<'_> {
         Ok(self.truth(a, w))
     }
 
+    // Each make counts its own records, and has its own top price.
     fn figures(&mut self) -> Figures {
         Figures {
             variables: self.n,

@@ -1,7 +1,7 @@
 // How a diagram store is made: a check alone refuses, and the making never does.
-ghost use Rattle.std.specs.Prelude.{◌≡◌, [], length, if◌then◌else◌, Ok, Err};
+ghost use Rattle.std.specs.Prelude.{◌≡◌, [], length, if◌then◌else◌};
+ghost use Rattle.store.specs.Fitting.{fitting};
 ghost use Rattle.store.specs.Meaning.{Fresh, Lawful};
-ghost use Rattle.store.specs.declared.refusal.Unfit.TheVariants.{Store as Outside};
 ghost use Rattle.nodes.specs.Shows.{shown};
 ghost use Rattle.diagram.specs.Shows.{showing, suits};
 
@@ -9,18 +9,16 @@ use super::Diagram;
 use super::memo::Memo;
 use nodes::Node;
 use records::List;
+use store::MOST_VARIABLES;
 use store::fitting::{fit, fitted};
 use store::refusal::Unfit;
-
-// The most variables of a diagram store.
-const MOST: u8 = 24;
 
 // Whether a diagram store of n variables can be made in the records.
 // n and the records are two parameters, since here the records are only looked at, and `new` takes them.
 pub fn check(n: u8, records: &[Node]) -> Result<(), Unfit>
-    ensures { result ≡ (if suits n (length records.now) then Ok tt else Err Outside) }
+    ensures { result ≡ fitting (suits n (length records.now)) }
 {
-    fit(n, MOST, records)
+    fit(n, MOST_VARIABLES, records)
 }
 
 impl<'a> Diagram<'a> {
@@ -31,7 +29,7 @@ impl<'a> Diagram<'a> {
         ensures fresh { Fresh (showing result) }
         ensures lawful { Lawful (showing result) }
     {
-        let (n, records) = fitted(n, MOST, records);
+        let (n, records) = fitted(n, MOST_VARIABLES, records);
         Diagram {
             n,
             nodes: List::new(records, links),

@@ -6,7 +6,7 @@ use Rattle.store.specs.Meaning.{Shown, Grown, Lawful}
 use Rattle.making.specs.declared.fault.Fault.{Fault}
 use Rattle.making.specs.declared.fault.Fault.TheVariants as fault
 use Rattle.making.specs.Ends.{Ends, made, stuck, located}
-use Rattle.making.specs.Loads.{advance_list}
+use Rattle.making.specs.Loads.{registers_of, advance_list}
 use Rattle.making.specs.Making.{Means, Stops, here, later}
 use Rattle.making.proofs.Backs.{kept_all}
 use Rattle.making.proofs.Steps.{kept, runs_grown, stops_grown}
@@ -21,7 +21,7 @@ use Rattle.uses.specs.Calls.{loaded, tell, advance, stand}
 use Rattle.uses.specs.Uses.{Step, advance_settled, advance_full, advances}
 use Rattle.uses.proofs.Told.{tell_open}
 use Rattle.arrayvec.specs.ArrayVec.{array_vec_len}
-use Rattle.engine.specs.declared.found.Found.{Found}
+use Rattle.engine.specs.declared.stage.Stage.{Stage}
 use Rattle.engine.specs.declared.search.Search.{Search}
 use Rattle.engine.specs.Advancing.{Reaches, Advances}
 use Rattle.engine.specs.Keeping.{World, searching, Sets, Next}
@@ -49,7 +49,7 @@ sets_kept m j s t k g l h = record {
 
 module _ (w : World) (k : Search) (e : w.search ≡ Some k) where
   -- the verdict is not open, or the advances are as many as can be
-  pub when_settled : (k.verdict ≡ verdict.Open → ⊥) → Next w (advance (Err fault.Settled)) w
+  pub when_settled : (k.last.verdict ≡ verdict.Open → ⊥) → Next w (advance (Err fault.Settled)) w
   when_settled o = stays_some w _ k e (λ m j r h. advance_settled (λ v. o (h.verdict ∙ ap tell v)))
 
   pub when_many : 256 ≤ array_vec_len k.earlier → Next w (advance (Err fault.Settled)) w
@@ -58,12 +58,12 @@ module _ (w : World) (k : Search) (e : w.search ≡ Some k) where
       let p = pow_mono {i = m.circuit.registers} {j = 8} h.valid.circuit.few_registers in
       omega (arith, f, p, l, h.count)))
 
-  module _ (o : k.verdict ≡ verdict.Open) (t : Shown) where
+  module _ (o : k.last.verdict ≡ verdict.Open) (t : Shown) where
     open_here : (m : Model) (j : ℕ) → Sets m j w.store k → search.verdict (system m) j ≡ open_yet
     open_here m j h = tell_open (search.verdict (system m) j) (sym h.verdict ∙ o)
 
     -- what the code did
-    ran : (m : Model) (j : ℕ) → Reached (system m) j → Sets m j w.store k → (r : Result Found Fault) → Advances w.store k r t → Ends located w.store t (advance_list m j) (Reaches t m j) r
+    ran : (m : Model) (j : ℕ) → Reached (system m) j → Sets m j w.store k → (r : Result Stage Fault) → Advances w.store k r t → Ends located w.store t (advance_list m j) (Reaches t m j) r
     ran m j r h x f = f m j (record {
       valid = h.valid;
       registers = h.registers;
@@ -87,9 +87,8 @@ module _ (w : World) (k : Search) (e : w.search ≡ Some k) where
           sets_kept m j w.store t k (stops_grown q) (stops_lawful q) h,
         )
 
-    pub when_done : (x : Found) (k' : Search) → k'.parts ≡ k.parts → k'.earlier.items ≡ k.earlier.items ++ k.set ∷ [] → k'.set ≡ x.set → k'.verdict ≡ x.verdict
-        → Advances w.store k (Ok x) t → Next w (advance (Ok x.verdict)) (searching t k')
-    when_done x k' ep ee es ev f = from_some w _ k e _ (λ m j r h. by m j h (ran m j r h (Ok x) f))
+    pub when_done : (x : Stage) (k' : Search) → k'.parts ≡ k.parts → k'.earlier.items ≡ k.earlier.items ++ k.last.set ∷ [] → k'.last ≡ x → Advances w.store k (Ok x) t → Next w (advance (Ok x.verdict)) (searching t k')
+    when_done x k' ep ee el f = from_some w _ k e _ (λ m j r h. by m j h (ran m j r h (Ok x) f))
       where
         by : (m : Model) (j : ℕ) → Sets m j w.store k → Ends located w.store t (advance_list m j) (Reaches t m j) (Ok x)
             → Leads_on w (advance (Ok x.verdict)) (loaded m j) (searching t k')
@@ -99,15 +98,15 @@ module _ (w : World) (k : Search) (e : w.search ≡ Some k) where
           record {
             valid = h.valid;
             lawful = q.lawful;
-            registers = ap (λ p. p.n) ep ∙ h.registers;
+            registers = ap registers_of ep ∙ h.registers;
             inputs = ap (λ p. p.m) ep ∙ h.inputs;
-            count = ap length ee ∙ length-append k.earlier.items (k.set ∷ []) ∙ ap (λ n. n + 1) h.count ∙ add-one j;
-            verdict = ev ∙ q.verdict;
+            count = ap length ee ∙ length-append k.earlier.items (k.last.set ∷ []) ∙ ap (λ n. n + 1) h.count ∙ add-one j;
+            verdict = ap (λ l. l.verdict) el ∙ q.verdict;
             parts = rw ep (kept_all g h.parts);
             property = rw ep (kept g h.property);
             init = rw ep (kept g h.init);
             earlier = λ i b. subst (λ n. Means t n (set_fn m i)) (sym (ap (λ l. get_or l i 0) ee)) (⊎_elim (at_end i) (before i) (eq-or-lt_of_le (down i b)));
-            set = rw es q.set;
+            set = rw el q.set;
           },
         )
           where
@@ -117,10 +116,10 @@ module _ (w : World) (k : Search) (e : w.search ≡ Some k) where
             down : (i : ℕ) → i < suc j → i ≤ j
             down i b = omega arith
 
-            at_end : (i : ℕ) → i ≡ j → Means t (get_or (k.earlier.items ++ k.set ∷ []) i 0) (set_fn m i)
+            at_end : (i : ℕ) → i ≡ j → Means t (get_or (k.earlier.items ++ k.last.set ∷ []) i 0) (set_fn m i)
             at_end i p =
-                subst (λ n. Means t (get_or (k.earlier.items ++ k.set ∷ []) n 0) (set_fn m n)) (sym p)
-                (subst (λ n. Means t n (set_fn m j)) (sym (ap (λ n. get_or (k.earlier.items ++ k.set ∷ []) n 0) (sym h.count) ∙ get_or-append_seam k.earlier.items k.set [] 0)) (kept g h.set))
+                subst (λ n. Means t (get_or (k.earlier.items ++ k.last.set ∷ []) n 0) (set_fn m n)) (sym p)
+                (subst (λ n. Means t n (set_fn m j)) (sym (ap (λ n. get_or (k.earlier.items ++ k.last.set ∷ []) n 0) (sym h.count) ∙ get_or-append_seam k.earlier.items k.last.set [] 0)) (kept g h.set))
 
-            before : (i : ℕ) → i < j → Means t (get_or (k.earlier.items ++ k.set ∷ []) i 0) (set_fn m i)
-            before i b = subst (λ n. Means t n (set_fn m i)) (sym (get_or_append_left k.earlier.items (k.set ∷ []) 0 i (subst (λ n. i < n) (sym h.count) b))) (kept g (h.earlier i b))
+            before : (i : ℕ) → i < j → Means t (get_or (k.earlier.items ++ k.last.set ∷ []) i 0) (set_fn m i)
+            before i b = subst (λ n. Means t n (set_fn m i)) (sym (get_or_append_left k.earlier.items (k.last.set ∷ []) 0 i (subst (λ n. i < n) (sym h.count) b))) (kept g (h.earlier i b))

@@ -42,10 +42,10 @@ one_written f xs ys zs i d l m e =
     ∙ ap (λ l. l ++ drop (i + 1) ys) (sym (map_more f xs i d l))
 
 module _ (w : World) (k : Search) (e : w.search ≡ Some k) (x y : List ℕ) where
-  pub when_not_unsafe : ((d : ℕ) → k.verdict ≡ verdict.Unsafe d → ⊥) → Next w (trace x y x y (Err fault.Verdict)) w
+  pub when_not_unsafe : ((d : ℕ) → k.last.verdict ≡ verdict.Unsafe d → ⊥) → Next w (trace x y x y (Err fault.Verdict)) w
   when_not_unsafe o = stays_some w _ k e (λ m j r h. trace_verdict (λ v. o j (h.verdict ∙ ap tell v)))
 
-  module _ (d : ℕ) (o : k.verdict ≡ verdict.Unsafe d) where
+  module _ (d : ℕ) (o : k.last.verdict ≡ verdict.Unsafe d) where
     unsafe_here : (m : Model) (j : ℕ) → Sets m j w.store k → search.verdict (system m) j ≡ unsafe j
     unsafe_here m j h = depth_is (system m) j d (tell_unsafe (search.verdict (system m) j) d (sym h.verdict ∙ o))
 

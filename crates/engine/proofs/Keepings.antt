@@ -69,7 +69,7 @@ not_there (Some x) e = never (cc)
 
 -- what the verdict call answers
 pub told_by : {R : Type 0} (now : R → Search) (P : R → Type 0) (st : State) (w : World) (o : Option R) (v : Verdict) → option_map now o ≡ w.search
-    → MatchOption o (v ≡ verdict.Empty) P → ((k : R) → P k → v ≡ (now k).verdict) → Keeps st w → v ≡ told st
+    → MatchOption o (v ≡ verdict.Empty) P → ((k : R) → P k → v ≡ (now k).last.verdict) → Keeps st w → v ≡ told st
 told_by now P empty w None v e m f h = m
 told_by now P empty w (Some k) v e m f h = let p = e ∙ h in never (cc)
 told_by now P (loaded m j) w None v e q f h = absurd (subst (λ o. MatchOption o ⊥ (Sets m j w.store)) (sym e) h)

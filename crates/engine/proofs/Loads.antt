@@ -16,7 +16,7 @@ use Rattle.making.specs.declared.fault.Fault.TheVariants as fault
 use Rattle.making.specs.declared.parts.Built.{Built}
 use Rattle.making.specs.declared.parts.Parts.{Parts}
 use Rattle.making.specs.Ends.{Ends, made, stuck, located}
-use Rattle.making.specs.Loads.{load_list, Loaded}
+use Rattle.making.specs.Loads.{registers_of, load_list, Loaded}
 use Rattle.making.specs.Making.{Means}
 use Rattle.making.specs.Promises.{Builds}
 use Rattle.runs.specs.Functions.{both}
@@ -89,18 +89,18 @@ module _ (x a p : List ℕ) (w : World) where
           met = record { held = q.met.held; same = λ u l. q.met.same u l ∙ ap (λ y. y && init_fn model u) ((functions_exact model valid.0).stepped.first u) }
 
       pub when_done : (b : Built) (k : Search) → BeginsFrom b k → Builds t (netlist d.circuit) (used d.assumption) (used d.property) (Ok b) v
-          → Next w (load x a p (Ok k.verdict)) (searching v k)
+          → Next w (load x a p (Ok k.last.verdict)) (searching v k)
       when_done b k z f = from_none w _ _ e (by (ran (Ok b) f))
         where
           by : Ends located w.store v (load_list model) (Loaded v model (claim_fn model model.assumption) (claim_fn model model.property)) (Ok b)
-              → Leads_on w (load x a p (Ok k.verdict)) empty (searching v k)
+              → Leads_on w (load x a p (Ok k.last.verdict)) empty (searching v k)
           by (made r q) = (
             loaded model 0,
             subst (λ o. Step (stand empty w.store) (load x a p (Ok o)) (stand (loaded model 0) v)) (sym (z.verdict ∙ begun b q)) (loads checked r),
             record {
               valid = valid.0;
               lawful = q.lawful;
-              registers = ap (λ (y : Parts). y.n) z.parts ∙ q.registers;
+              registers = ap registers_of z.parts ∙ q.registers;
               inputs = ap (λ (y : Parts). y.m) z.parts ∙ q.inputs;
               count = ap length z.earlier;
               verdict = z.verdict ∙ begun b q;

@@ -7,6 +7,7 @@ use Rattle.store.specs.Calls.{TellsValue}
 use Rattle.making.specs.declared.fault.Fault.{Fault}
 use Rattle.making.specs.declared.parts.Parts.{Parts}
 use Rattle.making.specs.Making.{Means, unpaired}
+use Rattle.making.specs.Loads.{registers_of}
 use Rattle.runs.specs.Functions.{spread}
 use Rattle.runs.specs.Valuations.{set_fn}
 use Rattle.runs.specs.Models.{Model, system, Valid}
@@ -52,40 +53,40 @@ pub closed : (m : Model) → Valid m → Closed (system m)
 closed m v = (functions_exact m v).stepped.closed
 
 module _ (s : Shown) (m : Model) (k : Parts) (h : Readable s m k) where
-  at_spread : (a : ℕ) (f : Fn) (q v : ℕ) (r : Result Bool Fault) → Means s a f → State (system m) q → Input (system m) v → Tells s k.n a q v r
+  at_spread : (a : ℕ) (f : Fn) (q v : ℕ) (r : Result Bool Fault) → Means s a f → State (system m) q → Input (system m) v → Tells s (registers_of k) a q v r
       → r ≡ Ok (f (spread m.circuit.registers q v))
   at_spread a f q v r e lq lv t =
-      t m.circuit.inputs f e (subst (λ i. 2 * k.n + i ≤ s.vars) h.inputs h.parts.wide) (subst (λ n. q < 2 ^ n) (sym h.registers) lq) lv
+      t m.circuit.inputs f e (subst (λ i. 2 * registers_of k + i ≤ s.vars) h.inputs h.parts.wide) (subst (λ n. q < 2 ^ n) (sym h.registers) lq) lv
       ∙ ap (λ n. Ok (f (spread n q v))) h.registers
 
-  pub assumed_is : (q v : ℕ) (r : Result Bool Fault) → State (system m) q → Input (system m) v → Tells s k.n k.assumed q v r → r ≡ Ok ((system m).assumed q v)
+  pub assumed_is : (q v : ℕ) (r : Result Bool Fault) → State (system m) q → Input (system m) v → Tells s (registers_of k) k.assumed q v r → r ≡ Ok ((system m).assumed q v)
   assumed_is q v r lq lv t =
       let p = spreads m.circuit.registers m.circuit.inputs q v lq lv in
       at_spread k.assumed _ q v r h.parts.assumed lq lv t
       ∙ ap Ok ((functions_exact m h.valid).stepped.stands.assumes (spread m.circuit.registers q v) ∙ ap₂ (system m).assumed p.state p.input)
 
-  pub property_is : (q v : ℕ) (r : Result Bool Fault) → State (system m) q → Input (system m) v → Tells s k.n k.property q v r → r ≡ Ok ((system m).property q v)
+  pub property_is : (q v : ℕ) (r : Result Bool Fault) → State (system m) q → Input (system m) v → Tells s (registers_of k) k.property q v r → r ≡ Ok ((system m).property q v)
   property_is q v r lq lv t =
       let p = spreads m.circuit.registers m.circuit.inputs q v lq lv in
       at_spread k.property _ q v r h.property lq lv t
       ∙ ap Ok ((functions_exact m h.valid).stepped.stands.claims (spread m.circuit.registers q v) ∙ ap₂ (system m).property p.state p.input)
 
-  pub next_is : (i a q v : ℕ) (r : Result Bool Fault) → i < k.n → a ≡ (get_or k.nexts.items i unpaired).function → State (system m) q → Input (system m) v → Tells s k.n a q v r
+  pub next_is : (i a q v : ℕ) (r : Result Bool Fault) → i < registers_of k → a ≡ (get_or k.nexts.items i unpaired).function → State (system m) q → Input (system m) v → Tells s (registers_of k) a q v r
       → r ≡ Ok (bit i ((system m).next q v))
   next_is i a q v r l e lq lv t =
       let p = spreads m.circuit.registers m.circuit.inputs q v lq lv in
-      at_spread (get_or k.nexts.items i unpaired).function _ q v r (h.parts.nexts i l).function lq lv (subst (λ x. Tells s k.n x q v r) e t)
+      at_spread (get_or k.nexts.items i unpaired).function _ q v r (h.parts.nexts i l).function lq lv (subst (λ x. Tells s (registers_of k) x q v r) e t)
       ∙ ap Ok ((functions_exact m h.valid).stepped.stands.nexts i (subst (λ n. i < n) h.registers l) (spread m.circuit.registers q v)
       ∙ ap₂ (λ x y. bit i ((system m).next x y)) p.state p.input)
 
-  pub init_is : (q : ℕ) (r : Result Bool Fault) → State (system m) q → Tells s k.n k.init q 0 r → r ≡ Ok ((system m).init q)
+  pub init_is : (q : ℕ) (r : Result Bool Fault) → State (system m) q → Tells s (registers_of k) k.init q 0 r → r ≡ Ok ((system m).init q)
   init_is q r lq t =
       let lv = pow_pos m.circuit.inputs in
       at_spread k.init _ q 0 r h.init lq lv t
       ∙ ap Ok ((functions_exact m h.valid).stepped.stands.starts (spread m.circuit.registers q 0)
       ∙ ap (system m).init (spreads m.circuit.registers m.circuit.inputs q 0 lq lv).state)
 
-  pub set_is : (i a q : ℕ) (r : Result Bool Fault) → Means s a (set_fn m i) → State (system m) q → Tells s k.n a q 0 r → r ≡ Ok (bad (system m) i q)
+  pub set_is : (i a q : ℕ) (r : Result Bool Fault) → Means s a (set_fn m i) → State (system m) q → Tells s (registers_of k) a q 0 r → r ≡ Ok (bad (system m) i q)
   set_is i a q r e lq t =
       let lv = pow_pos m.circuit.inputs in
       at_spread a _ q 0 r e lq lv t
@@ -93,7 +94,7 @@ module _ (s : Shown) (m : Model) (k : Parts) (h : Readable s m k) where
 
   -- a set at the next state
   pub after_is : (i a q v next : ℕ) (r : Result Bool Fault) → Means s a (set_fn m i) → State (system m) q → Input (system m) v
-      → ◌≡◌ {A = Result ℕ Fault} (Ok next) (Ok ((system m).next q v)) → Tells s k.n a next 0 r → r ≡ Ok (bad (system m) i ((system m).next q v))
+      → ◌≡◌ {A = Result ℕ Fault} (Ok next) (Ok ((system m).next q v)) → Tells s (registers_of k) a next 0 r → r ≡ Ok (bad (system m) i ((system m).next q v))
   after_is i a q v next r e lq lv p t =
       let x : next ≡ (system m).next q v = cc in
-      set_is i a ((system m).next q v) r e (closed m h.valid q v lq lv) (subst (λ y. Tells s k.n a y 0 r) x t)
+      set_is i a ((system m).next q v) r e (closed m h.valid q v lq lv) (subst (λ y. Tells s (registers_of k) a y 0 r) x t)

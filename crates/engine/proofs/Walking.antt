@@ -6,6 +6,7 @@ use Rattle.store.specs.Fun.{some}
 use Rattle.store.specs.Meaning.{Shown}
 use Rattle.making.specs.declared.fault.Fault.{Fault}
 use Rattle.making.specs.Making.{Means}
+use Rattle.making.specs.Loads.{registers_of}
 use Rattle.runs.specs.Models.{Model, system}
 use Rattle.runs.specs.Search.{faulty, leads_into, bad, initial_in, Least}
 use Rattle.runs.specs.Systems.{State, Input}
@@ -37,12 +38,12 @@ module _ (m : Model) (j : ℕ) (s : Shown) (k : Search) (h : Sets m j s k) where
     known : (t : Shown) → t ≡ s → Readable t m k.parts
     known t e = subst (λ x. Readable x m k.parts) (sym e) (readable m j s k h)
 
-    pub start : count ≡ 2 ^ k.parts.n → ((a b : MutBor A) (x : ℕ) (o : Result Bool Fault) → calls a x o b → Begins (shows a.now) k.parts k.set x o)
+    pub start : count ≡ 2 ^ registers_of k.parts → ((a b : MutBor A) (x : ℕ) (o : Result Bool Fault) → calls a x o b → Begins (shows a.now) k.parts k.last.set x o)
         → Finds (2 ^ (system m).registers) (initial_in (system m) (bad (system m) j)) r
     start e q =
         let n = e ∙ ap (λ n. 2 ^ n) h.registers in
         subst (λ n. Finds n (initial_in (system m) (bad (system m) j)) r) n
-        (finds _ (λ a b x o p l c. q a b x o c m j (known _ p) (subst (λ t. Means t k.set (set_fn m j)) (sym p) h.set) (subst (λ i. x < i) n l)))
+        (finds _ (λ a b x o p l c. q a b x o c m j (known _ p) (subst (λ t. Means t k.last.set (set_fn m j)) (sym p) h.set) (subst (λ i. x < i) n l)))
 
     module _ (e : count ≡ 2 ^ k.parts.m) (y : ℕ) (ly : State (system m) y) where
       pub lead : (i a : ℕ) → Means s a (set_fn m i) → ((p b : MutBor A) (x : ℕ) (o : Result Bool Fault) → calls p x o b → Leads (shows p.now) k.parts a y x o)

@@ -3,7 +3,7 @@ use Rattle.std.specs.Prelude.{◌≡◌, ℕ, ◌<◌, List, ◌∷◌, Option, 
 use Rattle.arrayvec.specs.ArrayVec.{array_vec_len}
 use Rattle.store.specs.Meaning.{Shown, Lawful}
 use Rattle.making.specs.Making.{Means}
-use Rattle.making.specs.Loads.{Kept}
+use Rattle.making.specs.Loads.{registers_of, Kept}
 use Rattle.runs.specs.Valuations.{claim_fn, next_fn, init_fn, set_fn}
 use Rattle.runs.specs.Models.{Model, Valid}
 use Rattle.engine.specs.declared.search.Search.{Search}
@@ -27,15 +27,15 @@ searching s k = record { store = s; search = Some k }
 pub record Sets (m : Model) (j : ℕ) (s : Shown) (k : Search) : Type 0 where
   pub valid : Valid m
   pub lawful : Lawful s
-  pub registers : k.parts.n ≡ m.circuit.registers
+  pub registers : registers_of k.parts ≡ m.circuit.registers
   pub inputs : k.parts.m ≡ m.circuit.inputs
   pub count : array_vec_len k.earlier ≡ j
-  pub verdict : k.verdict ≡ told (loaded m j)
+  pub verdict : k.last.verdict ≡ told (loaded m j)
   pub parts : Kept s k.parts (next_fn m) (claim_fn m m.assumption)
   pub property : Means s k.parts.property (claim_fn m m.property)
   pub init : Means s k.parts.init (init_fn m)
   pub earlier : (i : ℕ) → i < j → Means s (slice_index k.earlier.items i) (set_fn m i)
-  pub set : Means s k.set (set_fn m j)
+  pub set : Means s k.last.set (set_fn m j)
 
 -- the session's search is that of this state
 abbrev pub Keeps : State → World → Type 0

@@ -8,5 +8,5 @@ use Rattle.engine.specs.declared.search.Search.{Search}
 pub record BeginsFrom (b : Built) (k : Search) : Type 0 where
   pub parts : k.parts ≡ b.parts
   pub earlier : k.earlier.items ≡ []
-  pub set : k.set ≡ b.set
-  pub verdict : k.verdict ≡ cond (b.met == 0) verdict.Open (verdict.Unsafe 0)
+  pub set : k.last.set ≡ b.set
+  pub verdict : k.last.verdict ≡ cond (b.met == 0) verdict.Open (verdict.Unsafe 0)

@@ -7,7 +7,7 @@ use Rattle.store.specs.Meaning.{Shown}
 use Rattle.making.specs.declared.fault.Fault.{Fault}
 use Rattle.making.specs.declared.parts.Parts.{Parts}
 use Rattle.making.specs.Making.{Means}
-use Rattle.making.specs.Loads.{Kept}
+use Rattle.making.specs.Loads.{registers_of, Kept}
 use Rattle.runs.specs.Functions.{spread}
 use Rattle.runs.specs.Valuations.{claim_fn, next_fn, init_fn, set_fn}
 use Rattle.runs.specs.Models.{Model, system, Valid}
@@ -20,7 +20,7 @@ use Rattle.engine.specs.Keeping.{Sets}
 -- the numbers are those of the model's claims, Init and next values
 pub record Readable (s : Shown) (m : Model) (k : Parts) : Type 0 where
   pub valid : Valid m
-  pub registers : k.n ≡ m.circuit.registers
+  pub registers : registers_of k ≡ m.circuit.registers
   pub inputs : k.m ≡ m.circuit.inputs
   pub parts : Kept s k (next_fn m) (claim_fn m m.assumption)
   pub property : Means s k.property (claim_fn m m.property)

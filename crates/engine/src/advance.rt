@@ -5,48 +5,46 @@ ghost use Rattle.uses.specs.Calls.{advance};
 ghost use Rattle.engine.specs.Keeping.{world, searching, Next};
 ghost use Rattle.engine.specs.Advancing.{Advances};
 
-use super::found::Found;
-use super::search::Search;
+use super::search::{MOST_ADVANCES, Search};
 use super::session::Session;
+use super::stage::{Stage, verdict_at};
 use description::part::Part;
 use making::fault::Fault;
-use making::{FALSE, back, place_at};
+use making::{back, place_at};
 use store::Store;
 use uses::verdict::Verdict;
 
 impl Search {
     // From the last set the next one, and the verdict with it.
-    fn step<S: Store>(&self, store: &mut S) -> Result<Found, Fault>
-        requires { array_vec_len self.now.earlier < 256 }
+    fn step<S: Store>(&self, store: &mut S) -> Result<Stage, Fault>
+        requires { array_vec_len self.now.earlier < MOST_ADVANCES }
         ensures { Advances (S.Store.shows store.old) self.now result (S.Store.shows store.new) }
     {
         let count = self.earlier.len() as u16;
-        let set = place_at(back(store, self.set, &self.parts), Part::Sets, count)?;
-        let verdict = if set == self.set {
+        let set = place_at(back(store, self.last.set, &self.parts), Part::Sets, count)?;
+        let verdict = if set == self.last.set {
             Verdict::Safe
-        } else if place_at(store.and(set, self.parts.init), Part::Sets, count)? == FALSE {
-            Verdict::Open
         } else {
-            Verdict::Unsafe(count + 1)
+            let met = place_at(store.and(set, self.parts.init), Part::Sets, count)?;
+            verdict_at(count + 1, met)
         };
-        Ok(Found { set, verdict })
+        Ok(Stage { set, verdict })
     }
 
     fn advance<S: Store>(&mut self, store: &mut S) -> Result<Verdict, Fault>
         ensures next { Next (searching (S.Store.shows store.old) self.old) (advance result) (searching (S.Store.shows store.new) self.new) }
         ensures refused { is_err result ≡ true → self.new ≡ self.old }
     {
-        let Verdict::Open = self.verdict else {
+        let Verdict::Open = self.last.verdict else {
             return Err(Fault::Settled);
         };
         if self.earlier.is_full() {
             return Err(Fault::Settled);
         }
-        let found = self.step(store)?;
-        self.earlier.push(self.set);
-        self.set = found.set;
-        self.verdict = found.verdict;
-        Ok(found.verdict)
+        let stage = self.step(store)?;
+        self.earlier.push(self.last.set);
+        self.last = stage;
+        Ok(stage.verdict)
     }
 }
 

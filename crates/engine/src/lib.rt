@@ -3,11 +3,11 @@
 
 mod advance;
 mod finding;
-mod found;
 mod load;
 pub mod questions;
 pub mod search;
 pub mod session;
+mod stage;
 pub mod step;
 mod stepping;
 mod trace;

@@ -6,12 +6,13 @@ ghost use Rattle.engine.specs.Loading.{BeginsFrom};
 
 use super::search::Search;
 use super::session::Session;
+use super::stage::{Stage, verdict_at};
 use arrayvec::ArrayVec;
 use description::describe;
 use description::source::Source;
+use making::build;
 use making::fault::Fault;
 use making::parts::Built;
-use making::{FALSE, build};
 use store::Store;
 use uses::verdict::Verdict;
 
@@ -19,16 +20,13 @@ use uses::verdict::Verdict;
 fn begin(built: Built) -> Search
     ensures { BeginsFrom built result }
 {
-    let verdict = if built.met == FALSE {
-        Verdict::Open
-    } else {
-        Verdict::Unsafe(0)
-    };
     Search {
         parts: built.parts,
         earlier: ArrayVec::new(),
-        set: built.set,
-        verdict,
+        last: Stage {
+            set: built.set,
+            verdict: verdict_at(0, built.met),
+        },
     }
 }
 
@@ -44,7 +42,7 @@ impl<S: Store> Session<S> {
         let described = describe(source, width)?;
         let built = build(&mut self.store, &described)?;
         let search = begin(built);
-        let verdict = search.verdict;
+        let verdict = search.last.verdict;
         self.search = Some(search);
         Ok(verdict)
     }

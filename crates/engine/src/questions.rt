@@ -33,7 +33,7 @@ impl<S: Store> Session<S> {
     {
         self.search
             .as_ref()
-            .map_or(Verdict::Empty, |search| search.verdict)
+            .map_or(Verdict::Empty, |search| search.last.verdict)
     }
 
     // Whether the last set does not hold a state.
@@ -42,13 +42,13 @@ impl<S: Store> Session<S> {
         ensures same { world S.Store.shows self.new ≡ world S.Store.shows self.old }
     {
         let search = self.search.as_ref().ok_or(Fault::Empty)?;
-        let Verdict::Safe = search.verdict else {
+        let Verdict::Safe = search.last.verdict else {
             return Err(Fault::Verdict);
         };
         if state >= search.states() {
             return Err(Fault::State);
         }
-        let held = search.truth(&mut self.store, search.set, Step::at(state))?;
+        let held = search.truth(&mut self.store, search.last.set, Step::at(state))?;
         Ok(!held)
     }
 }

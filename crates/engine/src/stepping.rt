@@ -1,16 +1,18 @@
 // What a search reads from its store: the truth of its functions, and one step of its circuit.
 // That the store then shows the same stays a clause of each: a struct that lent the store would have each method say, too, that it keeps the reference.
 ghost use Rattle.std.specs.Prelude.{◌≡◌};
+ghost use Rattle.making.specs.Loads.{registers_of};
 ghost use Rattle.engine.specs.Questions.{Tells, GoesTo, Leads, Faults, Begins};
 
 use super::search::Search;
 use super::step::Step;
+use description::part::Part;
 use making::fault::Fault;
+use making::place_at;
 use store::Store;
-use store::refusal::Refusal;
 
 impl Search {
-    // The truth of a function at a step.
+    // The truth of a function at a step. A refusal is of the call, at no place in it.
     pub(crate) fn truth<S: Store>(
         &self,
         store: &mut S,
@@ -18,14 +20,10 @@ impl Search {
         step: Step,
     ) -> Result<bool, Fault>
         ensures same { S.Store.shows store.new ≡ S.Store.shows store.old }
-        ensures tells { Tells (S.Store.shows store.old) self.now.parts.n function step.state step.input result }
+        ensures tells { Tells (S.Store.shows store.old) (registers_of self.now.parts) function step.state step.input result }
     {
-        store
-            .value(function, step.valuation(self.parts.n))
-            .map_err(|refusal| match refusal {
-                Refusal::Variable => Fault::Variable,
-                _ => Fault::Number,
-            })
+        let value = store.value(function, step.valuation(self.parts.registers()));
+        place_at(value, Part::Call, 0)
     }
 
     // The state after a step.

@@ -24,7 +24,7 @@ impl Search {
         let mut state = smallest(
             store,
             self.states(),
-            |store, state| self.begins_in(store, self.set, state),
+            |store, state| self.begins_in(store, self.last.set, state),
         )?;
         for &set in self.earlier.iter().rev() {
             let input = smallest(
@@ -54,7 +54,7 @@ impl<S: Store> Session<S> {
         ensures same { world S.Store.shows self.new ≡ world S.Store.shows self.old }
     {
         let search = self.search.as_ref().ok_or(Fault::Empty)?;
-        let Verdict::Unsafe(_) = search.verdict else {
+        let Verdict::Unsafe(_) = search.last.verdict else {
             return Err(Fault::Verdict);
         };
         let entries = search.earlier.len() + 1;
@@ -64,6 +64,7 @@ impl<S: Store> Session<S> {
             });
         }
         let steps = search.walk(&mut self.store)?;
+        // By index: of a `zip` with two `iter_mut`, `returns-clause-next` stayed open, since after it only the arrays' lengths are known.
         for (i, step) in steps.iter().enumerate() {
             states[i] = step.state;
             inputs[i] = step.input;

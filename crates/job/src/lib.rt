@@ -1,25 +1,21 @@
-// Jobs: the frame that holds a circuit file and two texts, and the report on it.
+// Jobs: the frame that holds a circuit file and two texts.
 #![tactic(auto)]
 
-ghost use Rattle.std.specs.Prelude.{◌≡◌, Some};
+ghost use Rattle.std.specs.Prelude.{◌≡◌};
 ghost use Rattle.job.specs.Frames.{frame, framed};
-ghost use Rattle.job.specs.Reports.{Reports, Only, settled, text};
 
 pub mod fault;
-pub mod report;
 
-use circuit::{number_at, sizes_at};
-use description::describe;
+use circuit::{MOST_GATES, file_length, number_at, sizes_at};
 use description::source::Source;
 use fault::Fault;
-use report::Report;
-use std::fmt;
+use store::MOST_VARIABLES;
 
 // How many variables the store of a program has.
-pub const VARIABLES: u8 = 24;
+pub const VARIABLES: u8 = MOST_VARIABLES;
 
 // The bytes of the longest job: the lengths, the circuit file with the most gates, and two longest texts.
-pub const LONGEST: u64 = 4 + (6 + 4 * 1024) + 2 * 512;
+pub const LONGEST: u64 = 4 + (6 + 4 * MOST_GATES as u64) + 2 * claim::LONGEST as u64;
 
 // Cuts a job into the circuit file, the assumption and the property.
 pub fn split(job: &[u8]) -> Result<Source, Fault>
@@ -27,8 +23,7 @@ pub fn split(job: &[u8]) -> Result<Source, Fault>
 {
     let wrong = Fault::Length(job.len());
     let (lengths, parts) = job.split_at_checked(4).ok_or(wrong)?;
-    // The sizes take 6 bytes, and each gate 4.
-    let circuit_length = 6 + 4 * usize::from(sizes_at(parts).gates);
+    let circuit_length = file_length(sizes_at(parts).gates);
     let (circuit, texts) = parts.split_at_checked(circuit_length).ok_or(wrong)?;
     let assumption_length = usize::from(number_at(lengths, 0));
     let (assumption, property) = texts.split_at_checked(assumption_length).ok_or(wrong)?;
@@ -40,34 +35,4 @@ pub fn split(job: &[u8]) -> Result<Source, Fault>
         assumption,
         property,
     })
-}
-
-fn read_job(job: &[u8]) -> Result<Report, Fault>
-    ensures { Reports job.now (settled result) }
-{
-    let source = split(job)?;
-    let described = describe(source, VARIABLES)?;
-    Ok(Report::Read(described.circuit.sizes()))
-}
-
-// What is to be said of a job.
-pub fn check(job: &[u8]) -> Report
-    ensures right { Reports job.now result }
-    ensures only { Only job.now result }
-{
-    read_job(job).unwrap_or_else(Report::Refused)
-}
-
-impl fmt::Display for Report {
-    ghost output = { λ r. Some (text r) };
-
-    fn fmt<W: fmt::Write>(&self, f: &mut fmt::Formatter<W>) -> fmt::Result {
-        match self {
-            Report::Read(sizes) => write!(f, "{sizes}\naccepted 0\n"),
-            Report::Refused(fault) => {
-                let notice = fault.notice();
-                write!(f, "{notice}\naccepted 0\n")
-            }
-        }
-    }
 }

@@ -1,5 +1,5 @@
 -- The parts of one step back.
-use Rattle.std.proofs.Common.{◌≡◌, ℕ, ◌+◌, ◌*◌, ◌<◌, ◌≤◌, List, length, Result, sym, subst, arith}
+use Rattle.std.proofs.Common.{◌≡◌, ℕ, ◌+◌, ◌*◌, ◌<◌, ◌≤◌, List, length, Result, sym, refl, subst, arith}
 use Rattle.store.specs.declared.refusal.Refusal.{Refusal}
 use Rattle.store.specs.Fun.{Fn, bit}
 use Rattle.store.specs.Meaning.{Shown, Grown}
@@ -9,7 +9,7 @@ use Rattle.making.specs.declared.parts.Polarities.{Polarities}
 use Rattle.making.specs.declared.parts.Parts.{Parts}
 use Rattle.making.specs.Making.{Means, Paired}
 use Rattle.making.specs.Pieces.{composed_all_list}
-use Rattle.making.specs.Loads.{Kept}
+use Rattle.making.specs.Loads.{registers_of, Kept}
 use Rattle.making.specs.Ends.{plain, Gives}
 use Rattle.making.specs.Promises.{ComposesAll}
 use Rattle.making.proofs.Steps.{kept}
@@ -17,9 +17,9 @@ use Rattle.making.proofs.Loops.{paired_kept}
 
 pub kept_all : {s t : Shown} {k : Parts} {next : ℕ → Fn} {h : Fn} → Grown s t → Kept s k next h → Kept t k next h
 kept_all {k = p} g k = record {
-  wide = subst (λ n. 2 * p.n + p.m ≤ n) (sym g.vars) k.wide;
-  copies = paired_kept p.copies.items _ p.n g k.copies;
-  nexts = paired_kept p.nexts.items _ p.n g k.nexts;
+  wide = subst (λ n. 2 * registers_of p + p.m ≤ n) (sym g.vars) k.wide;
+  copies = paired_kept p.copies.items _ (registers_of p) g k.copies;
+  nexts = paired_kept p.nexts.items _ (registers_of p) g k.nexts;
   assumed = kept g k.assumed;
 }
 
@@ -33,8 +33,8 @@ module _ (p : Part) (l : ℕ) {s t : Shown} (f : Fn) (a : ℕ) (bs : List Polari
 
   module _ (k : Parts) (next : ℕ → Fn) (h : Fn) (keeps : Kept s k next h) where
     pub puts_copies : bs ≡ k.copies.items → ComposesAll s a 0 bs r t
-        → Gives plain s t (composed_all_list p l register (λ i. bit (copy i)) f k.n) (composed_all register (λ i. bit (copy i)) f k.n) r
-    puts_copies e y = puts 0 register (λ i. bit (copy i)) k.copies.items k.n e k.copied (λ i lt. omega arith) keeps.copies (λ i lt. omega (arith, keeps.wide)) y
+        → Gives plain s t (composed_all_list p l register (λ i. bit (copy i)) f (registers_of k)) (composed_all register (λ i. bit (copy i)) f (registers_of k)) r
+    puts_copies e y = puts 0 register (λ i. bit (copy i)) k.copies.items (registers_of k) e refl (λ i lt. omega arith) keeps.copies (λ i lt. omega (arith, keeps.wide)) y
 
-    pub puts_nexts : bs ≡ k.nexts.items → ComposesAll s a 1 bs r t → Gives plain s t (composed_all_list p l copy next f k.n) (composed_all copy next f k.n) r
-    puts_nexts e y = puts 1 copy next k.nexts.items k.n e k.led (λ i lt. omega arith) keeps.nexts (λ i lt. omega (arith, keeps.wide)) y
+    pub puts_nexts : bs ≡ k.nexts.items → ComposesAll s a 1 bs r t → Gives plain s t (composed_all_list p l copy next f (registers_of k)) (composed_all copy next f (registers_of k)) r
+    puts_nexts e y = puts 1 copy next k.nexts.items (registers_of k) e k.led (λ i lt. omega arith) keeps.nexts (λ i lt. omega (arith, keeps.wide)) y

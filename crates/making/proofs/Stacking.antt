@@ -6,8 +6,8 @@ use Rattle.store.specs.Fun.{Fn}
 use Rattle.store.specs.Meaning.{Shown, Lawful, Grown}
 use Rattle.store.specs.Calls.{Answers, Reply}
 use Rattle.circuit.specs.Netlists.{Netlist, lines}
-use Rattle.claim.specs.declared.code.Sort.{Sort}
-use Rattle.claim.specs.declared.code.Sort.TheVariants.{Register, Input, Gate}
+use Rattle.circuit.specs.declared.sort.Sort.{Sort}
+use Rattle.circuit.specs.declared.sort.Sort.TheVariants.{Register, Input, Gate}
 use Rattle.claim.specs.declared.code.Act.TheVariants.{Constant, Name, Not, And, Or}
 use Rattle.claim.specs.Grammar.{named, limit}
 use Rattle.description.specs.declared.part.Part.{Part}

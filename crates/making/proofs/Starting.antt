@@ -17,7 +17,7 @@ use Rattle.making.specs.declared.parts.Built.{Built}
 use Rattle.making.specs.Models.{width}
 use Rattle.making.specs.Making.{at, Means, Numbered, Paired}
 use Rattle.making.specs.Pieces.{halves_list, negations_list}
-use Rattle.making.specs.Loads.{first_list, start_list, Loaded}
+use Rattle.making.specs.Loads.{first_list, start_list, registers_of, Loaded}
 use Rattle.making.specs.Ends.{Ends, plain, Gives}
 use Rattle.making.specs.Promises.{Negates}
 use Rattle.making.proofs.Steps.{kept, and_answers, gives_last}
@@ -68,7 +68,7 @@ module _ (m : Model) (p : Part) (l : ℕ) (h q : Fn) (s : Shown) where
         (lined (next_line m.circuit i) (omega (arith, ok.circuit.enough_gates)))
 
   -- the numbers in the end
-  pub loaded : (t : Shown) (b : Built) → b.parts.n ≡ m.circuit.registers → b.parts.m ≡ m.circuit.inputs → width m ≤ t.vars → Lawful t
+  pub loaded : (t : Shown) (b : Built) → registers_of b.parts ≡ m.circuit.registers → b.parts.m ≡ m.circuit.inputs → width m ≤ t.vars → Lawful t
       → Paired t b.parts.copies.items (λ i. bit (copy i)) m.circuit.registers → Paired t b.parts.nexts.items (next_fn m) m.circuit.registers
       → Means t b.parts.assumed h → Means t b.parts.property q → Means t b.parts.init (init_fn m)
       → Means t b.set set_fn → Means t b.met (both set_fn (init_fn m)) → Loaded t m h q b

@@ -51,17 +51,21 @@ advance_list m j =
     ++ cond (same m.circuit.registers (bad (system m) (suc j)) (bad (system m) j)) []
     (at Sets j (both (back_fn m j) (init_fn m) ∷ []))
 
+-- how many registers
+abbrev pub registers_of : Parts → ℕ
+registers_of k = length k.copies.items
+
 -- the numbers that an advance works with are those of the copies, the next values and the assumption, with the negations
 pub record Kept (s : Shown) (k : Parts) (next : ℕ → Fn) (h : Fn) : Type 0 where
-  pub wide : 2 * k.n + k.m ≤ s.vars
-  pub copies : Paired s k.copies.items (λ i. bit (copy i)) k.n
-  pub nexts : Paired s k.nexts.items next k.n
+  pub wide : 2 * registers_of k + k.m ≤ s.vars
+  pub copies : Paired s k.copies.items (λ i. bit (copy i)) (registers_of k)
+  pub nexts : Paired s k.nexts.items next (registers_of k)
   pub assumed : Means s k.assumed h
 
 -- the numbers after a load of a model's circuit, with the assumption h and the property q
 pub record Loaded (s : Shown) (m : Model) (h q : Fn) (b : Built) : Type 0 where
   pub lawful : Lawful s
-  pub registers : b.parts.n ≡ m.circuit.registers
+  pub registers : registers_of b.parts ≡ m.circuit.registers
   pub inputs : b.parts.m ≡ m.circuit.inputs
   pub kept : Kept s b.parts (next_fn m) h
   pub property : Means s b.parts.property q

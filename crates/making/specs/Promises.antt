@@ -21,7 +21,7 @@ use Rattle.runs.specs.Models.{Model, sizes}
 use Rattle.making.specs.Models.{model, width}
 use Rattle.making.specs.Making.{at, Means, Numbered, Polar, Paired}
 use Rattle.making.specs.Pieces.{composed_list, composed_all_list, halves_list, quantified_list, negations_list, variables_list, literal_list, gate_list, gates_list, operators_list}
-use Rattle.making.specs.Loads.{first_list, start_list, load_list, back_list, Kept, Loaded}
+use Rattle.making.specs.Loads.{first_list, start_list, load_list, back_list, registers_of, Kept, Loaded}
 use Rattle.making.specs.Ends.{Ends, plain, located, Gives}
 use Rattle.making.specs.Stacks.{Standing, Acts}
 
@@ -103,4 +103,4 @@ Builds s c hs qs r t = (h q : Tree) → hs ≡ post h → qs ≡ post q → Know
 -- all of an advance but the call with Init
 abbrev pub StepsBack : Shown → ℕ → Parts → Result ℕ Refusal → Shown → Type 0
 StepsBack s a k r t = (p : Part) (l : ℕ) (f h : Fn) (next : ℕ → Fn) → Means s a f → Kept s k next h
-    → Gives plain s t (back_list p l k.n k.m next h f) (back_of k.n k.m next h f) r
+    → Gives plain s t (back_list p l (registers_of k) k.m next h f) (back_of (registers_of k) k.m next h f) r

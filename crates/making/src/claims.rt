@@ -27,7 +27,7 @@ fn pop(stack: &mut Stack) -> u16
 }
 
 // The number of an act's function. Its operands leave the stack. A match, and no closures: an act is data, read from a text.
-// The truth of a claim is found on a stack, too: one machine for both would take a trait of five acts, their laws over a store's states, and an error that a truth never has.
+// Not one with `claim`'s: a trait of five acts would carry laws over what a store shows, and a refusal that no truth has.
 fn act_on<S: Store>(
     store: &mut S,
     lines: &Lines,

@@ -13,18 +13,25 @@ pub struct Polarities {
 // The numbers that an advance works with: of the registers' copies, the next values, the claims and Init.
 #[derive(Drop)]
 pub struct Parts {
-    // How many registers and inputs. `copies` is as long as `n`, but its length is a usize: each reader counts variables by `n`, and would have to narrow it.
-    pub n: u8,
+    // How many inputs.
     pub m: u8,
     pub copies: ArrayVec<Polarities, MOST_REGISTERS>,
     pub nexts: ArrayVec<Polarities, MOST_REGISTERS>,
     pub assumed: u16,
     pub property: u16,
     pub init: u16,
-    ghost registers: { n ≤ 8 },
     ghost inputs: { m ≤ 8 },
-    ghost copied: { length copies.items ≡ n },
-    ghost led: { length nexts.items ≡ n },
+    ghost led: { length nexts.items ≡ length copies.items },
+}
+
+impl Parts {
+    // How many registers.
+    pub fn registers(&self) -> u8
+        ensures counts { result ≡ length self.now.copies.items }
+        ensures few { result ≤ 8 }
+    {
+        self.copies.len() as u8
+    }
 }
 
 // What a load leaves: besides, the numbers of the first set and of its part in Init.

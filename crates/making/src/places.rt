@@ -6,6 +6,7 @@ use crate::fault::Fault;
 use description::part::Part;
 use store::refusal::Refusal;
 
+// No struct of the part and the place: their reader is a notice, which tells the place as a usize, and would take it apart.
 pub fn place_at<T>(answer: Result<T, Refusal>, part: Part, place: u16) -> Result<T, Fault>
     ensures { result ≡ placed part place answer }
 {

@@ -7,6 +7,7 @@ use crate::inputs::quantify;
 use crate::lines::Lines;
 use crate::negations::with_negations;
 use crate::parts::{Built, Parts};
+use crate::variables::first_input;
 use circuit::circuit::Circuit;
 use store::Store;
 use store::refusal::Refusal;
@@ -22,8 +23,8 @@ fn first_set<S: Store>(
 {
     let broken = store.not(property)?;
     let allowed = store.and(broken, assumed)?;
-    let first_input = 2 * circuit.registers();
-    quantify(store, allowed, first_input, circuit.inputs())
+    let first = first_input(circuit.registers());
+    quantify(store, allowed, first, circuit.inputs())
 }
 
 // The two claims are two parameters: a struct of them would be taken apart here, since those who read `Parts` take each by itself.
@@ -35,7 +36,6 @@ pub(crate) fn make_start<S: Store>(
 ) -> Result<Built, Refusal>
     ensures { MakesStart (S.Store.shows store.old) (alone (netlist lines.now.circuit.now)) lines.now.numbers.items lines.now.copies.items assumed property result (S.Store.shows store.new) }
 {
-    let n = lines.circuit.registers();
     let m = lines.circuit.inputs();
     let init = lines.init();
     let set = first_set(store, lines.circuit, assumed, property)?;
@@ -43,7 +43,6 @@ pub(crate) fn make_start<S: Store>(
     let copies = with_negations(store, &lines.copies)?;
     let nexts = with_negations(store, lines.nexts())?;
     let parts = Parts {
-        n,
         m,
         copies,
         nexts,

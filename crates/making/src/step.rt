@@ -6,6 +6,7 @@ ghost use Rattle.making.specs.Promises.{StepsBack};
 use crate::inputs::quantify;
 use crate::parts::Parts;
 use crate::substitution::compose_all;
+use crate::variables::first_input;
 use store::Store;
 use store::refusal::Refusal;
 
@@ -17,6 +18,6 @@ pub fn back<S: Store>(store: &mut S, from: u16, parts: &Parts) -> Result<u16, Re
     let copied = compose_all(store, from, 0, &parts.copies)?;
     let led = compose_all(store, copied, 1, &parts.nexts)?;
     let allowed = store.and(led, parts.assumed)?;
-    let some = quantify(store, allowed, 2 * parts.n, parts.m)?;
+    let some = quantify(store, allowed, first_input(parts.registers()), parts.m)?;
     store.or(some, from)
 }

@@ -1,5 +1,5 @@
 // The variables of a circuit's registers, of their copies and of its inputs.
-ghost use Rattle.std.specs.Prelude.{◌≡◌, length, IfOk, OnOk};
+ghost use Rattle.std.specs.Prelude.{◌≡◌, ◌*◌, ◌≤◌, length, IfOk, OnOk};
 ghost use Rattle.circuit.specs.Netlists.{gate_line};
 ghost use Rattle.circuit.specs.Reading.{netlist};
 ghost use Rattle.making.specs.Models.{alone};
@@ -12,6 +12,14 @@ use circuit::circuit::Circuit;
 use store::Store;
 use store::refusal::Refusal;
 
+// The variable of the first input: before it, each register and its copy have one.
+pub(crate) fn first_input(registers: u8) -> u8
+    requires { registers ≤ 8 }
+    ensures { result ≡ 2 * registers }
+{
+    2 * registers
+}
+
 // Writes the numbers of the registers and of the inputs after that of line 0, and answers those of the copies.
 pub(crate) fn make_variables<S: Store>(
     store: &mut S,
@@ -23,7 +31,7 @@ pub(crate) fn make_variables<S: Store>(
     ensures copies { IfOk result (λ cs. length cs.items ≡ (netlist circuit.now).registers) }
     ensures makes { MakesVariables (S.Store.shows store.old) (alone (netlist circuit.now)) numbers.old.items result numbers.new.items (S.Store.shows store.new) }
 {
-    let first_input = 2 * circuit.registers();
+    let first = first_input(circuit.registers());
     let mut copies = ArrayVec::new();
     for i in 0..circuit.registers() {
         let register = store.variable(2 * i)?;
@@ -31,7 +39,7 @@ pub(crate) fn make_variables<S: Store>(
         let copy = store.variable(2 * i + 1)?;
         copies.push(copy);
     }
-    for x in first_input..first_input + circuit.inputs() {
+    for x in first..first + circuit.inputs() {
         let input = store.variable(x)?;
         numbers.push(input);
     }

@@ -4,11 +4,11 @@ ghost use Rattle.order.specs.Listing.{times, is_order, place};
 ghost use Rattle.order.specs.Renaming.{placed, task_below};
 
 use arrayvec::ArrayVec;
+use store::MOST_VARIABLES;
 use store::bits::{bit, with_bit};
 use store::task::Task;
 
-// The most variables of a store.
-const MOST: usize = 24;
+const MOST: usize = MOST_VARIABLES as usize;
 
 // The places hold each number below their count once.
 #[derive(Drop)]
@@ -77,7 +77,7 @@ impl Order {
     pub(super) fn valuation_below(&self, w: u32) -> u32
         ensures { result ≡ placed (place self.now.places.items) (length self.now.places.items) w }
     {
-        (0..MOST as u8)
+        (0..MOST_VARIABLES)
             .zip(self.places.as_slice())
             .fold(w, |v, (i, place)| with_bit(v, *place, bit(w, i)))
     }

@@ -8,8 +8,8 @@ use Rattle.circuit.specs.Lines.{literal, conjunction, Values, line, extended}
 use Rattle.circuit.specs.Rules.{Determined}
 use Rattle.circuit.proofs.Lines.{determined}
 use Rattle.circuit.specs.declared.sizes.Sizes.{Sizes}
-use Rattle.claim.specs.declared.code.Sort.{Sort}
-use Rattle.claim.specs.declared.code.Sort.TheVariants.{Register, Input, Gate}
+use Rattle.circuit.specs.declared.sort.Sort.{Sort}
+use Rattle.circuit.specs.declared.sort.Sort.TheVariants.{Register, Input, Gate}
 use Rattle.claim.specs.Grammar.{Tree, const, named, neg, conj, disj, limit, Known}
 use Rattle.claim.specs.Truth.{fold, truth}
 use Rattle.runs.specs.Numbers.{bits}

@@ -2,7 +2,7 @@
 use Rattle.std.proofs.Common.{◌≡◌, ℕ, ◌<◌, ◌≤◌, Bool, true, ◌&&◌, ltb, List, [], ◌∷◌, ◌++◌, length, sym, refl, ap, ◌∙◌, subst, ⊎_elim, append_assoc, arith, length-append}
 use Rattle.std.proofs.lemmas.Bool.{and_parts, ltb-true, cases_lt}
 use Rattle.circuit.specs.declared.sizes.Sizes.{Sizes}
-use Rattle.claim.specs.declared.code.Sort.{Sort}
+use Rattle.circuit.specs.declared.sort.Sort.{Sort}
 use Rattle.claim.specs.declared.fault.Fault.{Fault}
 use Rattle.claim.specs.declared.fault.Fault.TheVariants.{Name}
 use Rattle.claim.specs.Tokens.{Kind, bang, amp, bar, lparen, rparen, constant, name, wrong, end, Tok, tok, tokens}

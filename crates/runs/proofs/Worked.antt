@@ -5,8 +5,8 @@ use Rattle.circuit.specs.Files.{says}
 use Rattle.circuit.specs.Lines.{line, touching}
 use Rattle.circuit.specs.Rules.{reading}
 use Rattle.circuit.specs.declared.sizes.Sizes.{Sizes}
-use Rattle.claim.specs.declared.code.Sort.{Sort}
-use Rattle.claim.specs.declared.code.Sort.TheVariants.{Register, Input}
+use Rattle.circuit.specs.declared.sort.Sort.{Sort}
+use Rattle.circuit.specs.declared.sort.Sort.TheVariants.{Register, Input}
 use Rattle.claim.specs.Tokens.{tokens}
 use Rattle.claim.specs.Grammar.{Tree, const, named, neg, disj, one_term, more_terms, one_factor, a_not, a_constant, a_name, a_text}
 use Rattle.claim.specs.Faults.{Read}

@@ -3,8 +3,8 @@ use Rattle.std.specs.Prelude.{◌≡◌, ℕ, suc, ◌+◌, ◌*◌, ◌/◌, �
 use Rattle.store.specs.Fun.{Fn, bit, Same, same}
 use Rattle.circuit.specs.Netlists.{Netlist, gate, register_line, input_line, gate_line, next_line, init_line}
 use Rattle.circuit.specs.Lines.{line}
-use Rattle.claim.specs.declared.code.Sort.{Sort}
-use Rattle.claim.specs.declared.code.Sort.TheVariants.{Register, Input, Gate}
+use Rattle.circuit.specs.declared.sort.Sort.{Sort}
+use Rattle.circuit.specs.declared.sort.Sort.TheVariants.{Register, Input, Gate}
 use Rattle.claim.specs.Grammar.{Tree, Known}
 use Rattle.claim.specs.Truth.{Ops, fold}
 use Rattle.runs.specs.Systems.{Closed}

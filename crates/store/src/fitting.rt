@@ -8,7 +8,7 @@ use super::refusal::Unfit;
 pub fn fit<T>(n: u8, most: u8, records: &[T]) -> Result<(), Unfit>
     ensures { result ≡ fitting (fits n most (length records.now)) }
 {
-    if n >= 1 && n <= most && records.len() <= 65534 {
+    if (1..=most).contains(&n) && records.len() <= 65534 {
         Ok(())
     } else {
         Err(Unfit::Store)

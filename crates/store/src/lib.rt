@@ -16,6 +16,9 @@ use figures::Figures;
 use refusal::Refusal;
 use task::{Op, Task};
 
+// The most variables of a store.
+pub const MOST_VARIABLES: u8 = 24;
+
 impl Refusal {
     // A method, since `as` takes no enum that holds values.
     pub fn number(self) -> u8

@@ -70,6 +70,7 @@ impl Store for Table<'_> {
         Ok(self.truth(a, w))
     }
 
+    // Each make counts its own records, and has its own top price.
     fn figures(&mut self) -> Figures {
         Figures {
             variables: self.n,

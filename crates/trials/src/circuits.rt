@@ -1,6 +1,7 @@
 // Circuit files at each bound of each check.
 use circuit::read;
-use circuit::refusal::{Refusal, Size};
+use circuit::refusal::Refusal;
+use circuit::sort::Sort;
 use circuit::sizes::Sizes;
 use std::alloc::{AllocError, Global};
 use std::test::Fail;
@@ -37,19 +38,19 @@ fn plain(heap: Global, sizes: Sizes, gates: u16) -> Result<Vec<u8>, AllocError> 
 #[test]
 fn sizes_are_bounded(rt: HostRuntime) -> Result<(), Fail> {
     let table = [
-        (sizes(0, 0, 1), 1, Err(Refusal::Size(Size::Registers))),
+        (sizes(0, 0, 1), 1, Err(Refusal::Size(Sort::Register))),
         (sizes(1, 0, 2), 2, Ok(sizes(1, 0, 2))),
         (sizes(8, 8, 9), 9, Ok(sizes(8, 8, 9))),
-        (sizes(9, 0, 10), 10, Err(Refusal::Size(Size::Registers))),
-        (sizes(8, 9, 9), 9, Err(Refusal::Size(Size::Inputs))),
-        (sizes(2, 0, 2), 2, Err(Refusal::Size(Size::Gates))),
+        (sizes(9, 0, 10), 10, Err(Refusal::Size(Sort::Register))),
+        (sizes(8, 9, 9), 9, Err(Refusal::Size(Sort::Input))),
+        (sizes(2, 0, 2), 2, Err(Refusal::Size(Sort::Gate))),
         (sizes(2, 0, 3), 3, Ok(sizes(2, 0, 3))),
         (sizes(2, 0, 1024), 1024, Ok(sizes(2, 0, 1024))),
-        (sizes(2, 0, 1025), 1025, Err(Refusal::Size(Size::Gates))),
+        (sizes(2, 0, 1025), 1025, Err(Refusal::Size(Sort::Gate))),
         (
             sizes(65535, 65535, 65535),
             0,
-            Err(Refusal::Size(Size::Registers)),
+            Err(Refusal::Size(Sort::Register)),
         ),
     ];
     for (sizes, gates, told) in table {

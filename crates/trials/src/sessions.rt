@@ -1,5 +1,6 @@
 // Sessions over every make of store and layers over them.
 use decide::search::settle;
+use decide::settled::Settled;
 use description::notice::Notice;
 use description::part::Part;
 use description::source::Source;
@@ -37,12 +38,12 @@ fn follow<'a>(assumption: &'a [u8], property: &'a [u8]) -> Source<'a> {
     }
 }
 
-// What is told of a search: how many advances, and the depth and the trace, or a bit for each state inside.
+// What is told of a search: how many advances, and the verdict with its depth and the trace, or a bit for each state inside.
 #[derive(Clone, Copy, PartialEq, Eq, Debug)]
 enum Told {
     Unsafe {
         advances: u16,
-        depth: u16,
+        verdict: Verdict,
         steps: [Step; 4],
     },
     Safe {
@@ -68,26 +69,23 @@ fn steps<S: Store>(session: &mut Session<S>) -> Result<[Step; 4], Fault> {
 
 fn search<S: Store + Drop>(store: S, source: Source) -> Result<Told, Fault> {
     let mut session = Session::new(store);
-    let first = session.load(source)?;
-    let advances = settle(&mut session, first)?;
-    match session.verdict() {
-        Verdict::Unsafe(depth) => {
-            let steps = steps(&mut session)?;
-            Ok(Told::Unsafe {
-                advances,
-                depth,
-                steps,
-            })
-        }
-        Verdict::Safe => {
+    session.load(source)?;
+    match settle(&mut session)? {
+        Settled::Unsafe(depth) => Ok(Told::Unsafe {
+            advances: depth.advances,
+            verdict: session.verdict(),
+            steps: steps(&mut session)?,
+        }),
+        Settled::Safe(depth) => {
             let mut inside = 0;
             for q in 0..4 {
                 inside |= u16::from(session.inside(q).unwrap_or(false)) << q;
             }
-            Ok(Told::Safe { advances, inside })
+            Ok(Told::Safe {
+                advances: depth.advances,
+                inside,
+            })
         }
-        // A settled search has neither verdict.
-        Verdict::Empty | Verdict::Open => Err(Fault::Verdict),
     }
 }
 
@@ -111,7 +109,7 @@ fn agree(rt: &impl Abort, source: Source, told: Told) -> Result<(), Fail> {
 fn unsafe_at(depth: u16, steps: [Step; 4]) -> Told {
     Told::Unsafe {
         advances: depth,
-        depth,
+        verdict: Verdict::Unsafe(depth),
         steps,
     }
 }

@@ -1,11 +1,10 @@
-use Rattle.std.proofs.Common.{sym, subst}
+use Rattle.std.proofs.Common.{sym}
 use Rattle.decide.specs.declared.fault.Fault.TheVariants.{Frame as Unframed, Call}
 use Rattle.description.specs.declared.source.Source.{Source}
 use Rattle.job.specs.Frames.{Parts}
 use Rattle.engine.specs.Keeping.{world}
 use Rattle.decide.specs.Reports.{unframed}
-use Rattle.decide.specs.Searches.{Come}
-use Rattle.decide.proofs.Sessions.{loaded_by, answered_by, decided}
+use Rattle.decide.proofs.Sessions.{loaded_by}
 use Rattle.decide.proofs.Right.{sizes_are, few_registers, refuses, not_begun, not_settled, concluded}
 use Rattle.decide.proofs.run.Goals as goal
 
@@ -17,53 +16,43 @@ returns-in_err-source g c =
     refuses (g.S.Store.shows c.args.store) c.args.job.now c.from_residual.result (Unframed c.in_err-source.field-0.0) c.from_residual.ensures.1
     (unframed (sym c.in_err-source.ensures))
 
-pub returns-in_err-first : goal.returns-in_err-first
-returns-in_err-first g c =
+pub returns-in_err-load : goal.returns-in_err-load
+returns-in_err-load g c =
     let s = g.S.Store.shows c.args.store in
     let n = c.new-session.ensures in
-    let b = loaded_by s (world g.S.Store.shows c.new-session.result) (world g.S.Store.shows c.load.new.self) n.store n.begun n.keeps c.in_err-first.ensures.next in
-    refuses s c.args.job.now c.from_residual-in_err-first.result (Call c.in_err-first.field-0.0) c.from_residual-in_err-first.ensures.1
-    (not_begun s c.args.job.now (parts c.in_ok-source.source) (sym c.in_ok-source.ensures) c.in_err-first.field-0.0 b)
+    let b = loaded_by s (world g.S.Store.shows c.new-session.result) (world g.S.Store.shows c.load.new.self) n.store n.begun n.keeps c.in_err-load.ensures.next in
+    refuses s c.args.job.now c.from_residual-in_err-load.result (Call c.in_err-load.field-0.0) c.from_residual-in_err-load.ensures.1
+    (not_begun s c.args.job.now (parts c.in_ok-source.source) (sym c.in_ok-source.ensures) c.in_err-load.field-0.0 b)
 
-pub returns-in_err-depth : goal.returns-in_err-depth
-returns-in_err-depth g c =
+pub returns-in_err-settled : goal.returns-in_err-settled
+returns-in_err-settled g c =
     let s = g.S.Store.shows c.args.store in
     let n = c.new-session.ensures in
-    let b = loaded_by s (world g.S.Store.shows c.new-session.result) (world g.S.Store.shows c.load.new.self) n.store n.begun n.keeps c.in_ok-first.ensures.next in
-    refuses s c.args.job.now c.from_residual-in_err-depth.result (Call c.in_err-depth.field-0.0) c.from_residual-in_err-depth.ensures.1
-    (not_settled s c.args.job.now (parts c.in_ok-source.source) (sym c.in_ok-source.ensures) b.model b.describes c.in_err-depth.field-0.0
-    (c.in_err-depth.ensures.settles s b.model b.come b.told_is))
+    let b = loaded_by s (world g.S.Store.shows c.new-session.result) (world g.S.Store.shows c.load.new.self) n.store n.begun n.keeps c.in_ok-load.ensures.next in
+    refuses s c.args.job.now c.from_residual-in_err-settled.result (Call c.in_err-settled.field-0.0) c.from_residual-in_err-settled.ensures.1
+    (not_settled s c.args.job.now (parts c.in_ok-source.source) (sym c.in_ok-source.ensures) b.model b.describes c.in_err-settled.field-0.0
+    (c.in_err-settled.ensures.settles s b.model b.come))
 
 pub conclude-requires : goal.conclude-requires
 conclude-requires g c =
     let s = g.S.Store.shows c.args.store in
     let n = c.new-session.ensures in
-    let b = loaded_by s (world g.S.Store.shows c.new-session.result) (world g.S.Store.shows c.load.new.self) n.store n.begun n.keeps c.in_ok-first.ensures.next in
-    let e = c.in_ok-depth.ensures.settles s b.model b.come b.told_is in
-    let a = answered_by s b.model c.in_ok-depth.depth (world g.S.Store.shows c.settle.new.session) _ e.come c.verdict-verdict.ensures.next in
-    record {
-      few = few_registers s.vars c.in_ok-source.source.circuit.now b.model.circuit b.describes.circuit;
-      short = c.in_ok-depth.ensures.short;
-      decided = decided b.model c.in_ok-depth.depth c.verdict-verdict.result a e.settled;
-    }
+    let b = loaded_by s (world g.S.Store.shows c.new-session.result) (world g.S.Store.shows c.load.new.self) n.store n.begun n.keeps c.in_ok-load.ensures.next in
+    few_registers s.vars c.in_ok-source.source.circuit.now b.model.circuit b.describes.circuit
 
 pub returns-in_err-conclude : goal.returns-in_err-conclude
 returns-in_err-conclude g c =
     let s = g.S.Store.shows c.args.store in
     let n = c.new-session.ensures in
-    let b = loaded_by s (world g.S.Store.shows c.new-session.result) (world g.S.Store.shows c.load.new.self) n.store n.begun n.keeps c.in_ok-first.ensures.next in
-    let e = c.in_ok-depth.ensures.settles s b.model b.come b.told_is in
-    let a = answered_by s b.model c.in_ok-depth.depth (world g.S.Store.shows c.settle.new.session) _ e.come c.verdict-verdict.ensures.next in
-    let k = subst (λ z. Come s b.model c.in_ok-depth.depth (world g.S.Store.shows z)) (sym c.verdict-verdict.ensures.same) e.come in
-    absurd (c.in_err-conclude.ensures s b.model k a (sizes_are s.vars c.in_ok-source.source.circuit.now b.model.circuit b.describes.circuit))
+    let b = loaded_by s (world g.S.Store.shows c.new-session.result) (world g.S.Store.shows c.load.new.self) n.store n.begun n.keeps c.in_ok-load.ensures.next in
+    let e = c.in_ok-settled.ensures.settles s b.model b.come in
+    absurd (c.in_err-conclude.ensures s b.model e (sizes_are s.vars c.in_ok-source.source.circuit.now b.model.circuit b.describes.circuit))
 
 pub returns : goal.returns
 returns g c =
     let s = g.S.Store.shows c.args.store in
     let n = c.new-session.ensures in
-    let b = loaded_by s (world g.S.Store.shows c.new-session.result) (world g.S.Store.shows c.load.new.self) n.store n.begun n.keeps c.in_ok-first.ensures.next in
-    let e = c.in_ok-depth.ensures.settles s b.model b.come b.told_is in
-    let a = answered_by s b.model c.in_ok-depth.depth (world g.S.Store.shows c.settle.new.session) _ e.come c.verdict-verdict.ensures.next in
-    let k = subst (λ z. Come s b.model c.in_ok-depth.depth (world g.S.Store.shows z)) (sym c.verdict-verdict.ensures.same) e.come in
+    let b = loaded_by s (world g.S.Store.shows c.new-session.result) (world g.S.Store.shows c.load.new.self) n.store n.begun n.keeps c.in_ok-load.ensures.next in
+    let e = c.in_ok-settled.ensures.settles s b.model b.come in
     concluded s c.args.job.now (parts c.in_ok-source.source) (sym c.in_ok-source.ensures) b.model b.describes _ _ _ e.come.searched
-    (c.in_ok-conclude.ensures s b.model k a (sizes_are s.vars c.in_ok-source.source.circuit.now b.model.circuit b.describes.circuit))
+    (c.in_ok-conclude.ensures s b.model e (sizes_are s.vars c.in_ok-source.source.circuit.now b.model.circuit b.describes.circuit))

@@ -1,4 +1,4 @@
-use Rattle.std.proofs.Common.{◌+◌, ◌*◌, ◌≤◌, sym, subst, arith}
+use Rattle.std.proofs.Common.{◌≡◌, ◌+◌, ◌*◌, ◌≤◌, sym, ap, ◌∙◌, subst, arith}
 use Rattle.circuit.specs.Reading.{netlist}
 use Rattle.runs.specs.Functions.{negated, both}
 use Rattle.making.specs.Promises.{Quantifies}
@@ -18,14 +18,14 @@ returns-in_err-allowed g c p l h q w mh mq =
     (ends_later c.in_ok-broken.ensures.lawful m1
     (ends_here c.in_err-allowed.ensures.lawful _ (and_answers c.in_err-allowed.ensures (fresh m1) (kept m1.grown mh))))
 
-pub overflow_mul-first_input : goal.overflow_mul-first_input
-overflow_mul-first_input g c =
-    omega (arith, c.registers-first_input.ensures, (sound_out (netlist c.args.circuit.now) c.args.circuit.now.sound).few_registers)
+pub first_input-first-requires : goal.first_input-first-requires
+first_input-first-requires g c =
+    omega (arith, c.registers.ensures, (sound_out (netlist c.args.circuit.now) c.args.circuit.now.sound).few_registers)
 
 pub quantify-requires : goal.quantify-requires
 quantify-requires g c =
     let d = sound_out (netlist c.args.circuit.now) c.args.circuit.now.sound in
-    omega (arith, c.registers-first_input.ensures, c.inputs.ensures, d.few_registers, d.few_inputs)
+    omega (arith, c.first_input-first.ensures, c.registers.ensures, c.inputs.ensures, d.few_registers, d.few_inputs)
 
 pub returns : goal.returns
 returns g c p l h q w mh mq =
@@ -34,8 +34,9 @@ returns g c p l h q w mh mq =
     let m2 = and_answers c.in_ok-allowed.ensures (fresh m1) (kept m1.grown mh) in
     let s = g.S.Store.shows c.and.new.self in
     let t = g.S.Store.shows c.quantify.new.store in
-    let y = subst (λ k. Quantifies s c.in_ok-allowed.allowed (2 * k) n.inputs c.quantify.result t) c.registers-first_input.ensures
-    (subst (λ k. Quantifies s c.in_ok-allowed.allowed (2 * c.registers-first_input.result) k c.quantify.result t) c.inputs.ensures c.quantify.ensures) in
+    let first : c.first_input-first.result ≡ 2 * n.registers = c.first_input-first.ensures ∙ ap (λ r. 2 * r) c.registers.ensures in
+    let y = subst (λ x. Quantifies s c.in_ok-allowed.allowed x n.inputs c.quantify.result t) first
+    (subst (λ k. Quantifies s c.in_ok-allowed.allowed c.first_input-first.result k c.quantify.result t) c.inputs.ensures c.quantify.ensures) in
     ends_later c.in_ok-broken.ensures.lawful m1
     (ends_later c.in_ok-allowed.ensures.lawful m2
     (y p l (both (negated q) h) (fresh m2) (subst (λ k. 2 * n.registers + n.inputs ≤ k) (sym (grown_more m1.grown m2.grown).vars) w)))

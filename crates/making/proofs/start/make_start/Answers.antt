@@ -16,10 +16,9 @@ invariant_of-parts g c =
     let n = netlist c.args.lines.now.circuit.now in
     let ok = valid_alone n c.args.lines.now.circuit.now.sound in
     record {
-      registers = omega (arith, c.registers-n.ensures, ok.circuit.few_registers);
       inputs = omega (arith, c.inputs-m.ensures, ok.circuit.few_inputs);
-      copied = c.in_ok-copies.ensures.each ∙ ap length c.deref.ensures.0 ∙ c.args.lines.now.copied ∙ sym c.registers-n.ensures;
-      led = c.in_ok-nexts.ensures.each ∙ ap length c.nexts.ensures ∙ nexts_length (alone n) ok _ c.args.lines.now.whole ∙ sym c.registers-n.ensures;
+      led = c.in_ok-nexts.ensures.each ∙ ap length c.nexts.ensures ∙ nexts_length (alone n) ok _ c.args.lines.now.whole
+          ∙ sym (c.in_ok-copies.ensures.each ∙ ap length c.deref.ensures.0 ∙ c.args.lines.now.copied);
     }
 
 pub returns-in_err-set : goal.returns-in_err-set
@@ -86,6 +85,6 @@ returns g c p l h q w ln cs mh mq =
     let g24 = grown_more (runs_grown r3.0) g34 in
     let g4 = grown_more g3 g34 in
     made (runs_join r1.0 (runs_join r2.0 (runs_join r3.0 r4.0)))
-    (loaded d p l h q s _ _ c.registers-n.ensures c.inputs-m.ensures (subst (λ v. width d ≤ v) (sym g4.vars) w) r4.1.0
+    (loaded d p l h q s _ _ (c.in_ok-copies.ensures.each ∙ ap length c.deref.ensures.0 ∙ c.args.lines.now.copied) c.inputs-m.ensures (subst (λ v. width d ≤ v) (sym g4.vars) w) r4.1.0
     (paired_kept c.in_ok-copies.copies.items _ n.registers g34 r3.1.1) r4.1.1
     (kept g4 mh) (kept g4 mq) (kept g4 (init_means d p l h q s ok _ ln _ c.init-init.ensures)) (kept (grown_more (runs_grown r2.0) g24) r1.1) (kept g24 r2.1))

@@ -1,4 +1,5 @@
 use Rattle.runs.specs.Functions.{both, copied, pre_image}
+use Rattle.making.specs.Loads.{registers_of}
 use Rattle.making.proofs.Steps.{kept, runs_grown, grown_more, runs_of, broke, ends_after, ends_before, and_answers, or_answers, gives_last, ends_here}
 use Rattle.making.proofs.Backs.{kept_all, puts_copies, puts_nexts}
 use Rattle.making.proofs.step.back.Goals as goal
@@ -13,14 +14,14 @@ returns-in_err-led-clause-gives g c p l f h next mf k =
     let ps = c.args.parts.now in
     let r1 = runs_of (puts_copies p l f _ _ _ mf ps next h k c.deref.ensures.0 c.in_ok-copied.ensures) in
     broke c.from_residual-in_err-led.result c.in_err-led.field-0.0 c.from_residual-in_err-led.ensures.1
-    (ends_after r1.0 (ends_before _ (puts_nexts p l (copied ps.n f) _ _ _ r1.1 ps next h (kept_all (runs_grown r1.0) k) c.deref-2.ensures.0 c.in_err-led.ensures)))
+    (ends_after r1.0 (ends_before _ (puts_nexts p l (copied (registers_of ps) f) _ _ _ r1.1 ps next h (kept_all (runs_grown r1.0) k) c.deref-2.ensures.0 c.in_err-led.ensures)))
 
 pub returns-in_err-allowed-clause-gives : goal.returns-in_err-allowed-clause-gives
 returns-in_err-allowed-clause-gives g c p l f h next mf k =
     let ps = c.args.parts.now in
     let r1 = runs_of (puts_copies p l f _ _ _ mf ps next h k c.deref.ensures.0 c.in_ok-copied.ensures) in
     let k1 = kept_all (runs_grown r1.0) k in
-    let r2 = runs_of (puts_nexts p l (copied ps.n f) _ _ _ r1.1 ps next h k1 c.deref-2.ensures.0 c.in_ok-led.ensures) in
+    let r2 = runs_of (puts_nexts p l (copied (registers_of ps) f) _ _ _ r1.1 ps next h k1 c.deref-2.ensures.0 c.in_ok-led.ensures) in
     broke c.from_residual-in_err-allowed.result c.in_err-allowed.field-0.0 c.from_residual-in_err-allowed.ensures.1
     (ends_after r1.0 (ends_after r2.0 (ends_here c.in_err-allowed.ensures.lawful _ (and_answers c.in_err-allowed.ensures r2.1 (kept (runs_grown r2.0) k1.assumed)))))
 
@@ -29,20 +30,20 @@ returns-in_err-some-clause-gives g c p l f h next mf k =
     let ps = c.args.parts.now in
     let r1 = runs_of (puts_copies p l f _ _ _ mf ps next h k c.deref.ensures.0 c.in_ok-copied.ensures) in
     let k1 = kept_all (runs_grown r1.0) k in
-    let r2 = runs_of (puts_nexts p l (copied ps.n f) _ _ _ r1.1 ps next h k1 c.deref-2.ensures.0 c.in_ok-led.ensures) in
+    let r2 = runs_of (puts_nexts p l (copied (registers_of ps) f) _ _ _ r1.1 ps next h k1 c.deref-2.ensures.0 c.in_ok-led.ensures) in
     let k2 = kept_all (runs_grown r2.0) k1 in
     let r3 = runs_of (gives_last c.in_ok-allowed.ensures.lawful _ (and_answers c.in_ok-allowed.ensures r2.1 k2.assumed)) in
     broke c.from_residual-in_err-some.result c.in_err-some.field-0.0 c.from_residual-in_err-some.ensures.1
-    (ends_after r1.0 (ends_after r2.0 (ends_after r3.0 (ends_before _ (c.in_err-some.ensures p l (both (pre_image ps.n next f) h) r3.1 (kept_all (runs_grown r3.0) k2).wide)))))
+    (ends_after r1.0 (ends_after r2.0 (ends_after r3.0 (ends_before _ ((rw (c.first_input.ensures, c.registers.ensures.counts) at c.in_err-some.ensures) p l (both (pre_image (registers_of ps) next f) h) r3.1 (kept_all (runs_grown r3.0) k2).wide)))))
 
 pub returns-clause-gives : goal.returns-clause-gives
 returns-clause-gives g c p l f h next mf k =
     let ps = c.args.parts.now in
     let r1 = runs_of (puts_copies p l f _ _ _ mf ps next h k c.deref.ensures.0 c.in_ok-copied.ensures) in
     let k1 = kept_all (runs_grown r1.0) k in
-    let r2 = runs_of (puts_nexts p l (copied ps.n f) _ _ _ r1.1 ps next h k1 c.deref-2.ensures.0 c.in_ok-led.ensures) in
+    let r2 = runs_of (puts_nexts p l (copied (registers_of ps) f) _ _ _ r1.1 ps next h k1 c.deref-2.ensures.0 c.in_ok-led.ensures) in
     let k2 = kept_all (runs_grown r2.0) k1 in
     let r3 = runs_of (gives_last c.in_ok-allowed.ensures.lawful _ (and_answers c.in_ok-allowed.ensures r2.1 k2.assumed)) in
-    let r4 = runs_of (c.in_ok-some.ensures p l (both (pre_image ps.n next f) h) r3.1 (kept_all (runs_grown r3.0) k2).wide) in
+    let r4 = runs_of ((rw (c.first_input.ensures, c.registers.ensures.counts) at c.in_ok-some.ensures) p l (both (pre_image (registers_of ps) next f) h) r3.1 (kept_all (runs_grown r3.0) k2).wide) in
     let g4 = grown_more (runs_grown r1.0) (grown_more (runs_grown r2.0) (grown_more (runs_grown r3.0) (runs_grown r4.0))) in
     ends_after r1.0 (ends_after r2.0 (ends_after r3.0 (ends_after r4.0 (gives_last c.or.ensures.lawful c.or.result (or_answers c.or.ensures r4.1 (kept g4 mf))))))

@@ -1,4 +1,4 @@
-use Rattle.std.proofs.Common.{◌≡◌, ◌+◌, ◌-◌, ◌*◌, ◌<◌, length, sym, ap, ◌∙◌, subst, arith}
+use Rattle.std.proofs.Common.{◌≡◌, ◌+◌, ◌-◌, ◌*◌, ◌<◌, length, ap, ◌∙◌, subst, arith}
 use Rattle.circuit.specs.Reading.{netlist}
 use Rattle.making.specs.Models.{alone, width}
 use Rattle.making.specs.Making.{ended}
@@ -8,9 +8,9 @@ use Rattle.making.proofs.Circuits.{sound_out, valid_alone}
 use Rattle.making.proofs.Varying.{Registers, Inputs, refused_next, runs_register, registers_more, inputs_more}
 use Rattle.making.proofs.variables.make_variables.Goals as goal
 
-pub overflow_mul-first_input : goal.overflow_mul-first_input
-overflow_mul-first_input g c =
-    omega (arith, c.registers-first_input.ensures, (sound_out (netlist c.args.circuit.now) c.args.circuit.now.sound).few_registers)
+pub first_input-first-requires : goal.first_input-first-requires
+first_input-first-requires g c =
+    omega (arith, c.registers.ensures, (sound_out (netlist c.args.circuit.now) c.args.circuit.now.sound).few_registers)
 
 pub overflow_mul-i : goal.overflow_mul-i
 overflow_mul-i g c =
@@ -19,7 +19,7 @@ overflow_mul-i g c =
 pub overflow_add-x-end : goal.overflow_add-x-end
 overflow_add-x-end g c =
     let d = sound_out (netlist c.args.circuit.now) c.args.circuit.now.sound in
-    omega (arith, c.registers-first_input.ensures, c.inputs.ensures, d.few_registers, d.few_inputs)
+    omega (arith, c.first_input-first.ensures, c.registers.ensures, c.inputs.ensures, d.few_registers, d.few_inputs)
 
 pub push-requires : goal.push-requires
 push-requires g c =
@@ -34,7 +34,7 @@ push-requires-in-loop-i g c =
 pub push-requires-in-loop-x : goal.push-requires-in-loop-x
 push-requires-in-loop-x g c =
     let d = sound_out (netlist c.args.circuit.now) c.args.circuit.now.sound in
-    omega (arith, c.loop-x.invariant.0, c.loop-x-test.true, c.registers-first_input.ensures, c.inputs.ensures, d.few_registers, d.few_inputs)
+    omega (arith, c.loop-x.invariant.0, c.loop-x-test.true, c.first_input-first.ensures, c.registers.ensures, c.inputs.ensures, d.few_registers, d.few_inputs)
 
 pub loop-i-init : goal.loop-i-init
 loop-i-init g c = (c.requires, ap length c.new-copies.ensures, λ w h. (ended, h, λ i l. absurd (omega arith)))
@@ -72,9 +72,9 @@ pub loop-x-init : goal.loop-x-init
 loop-x-init g c =
     let n = netlist c.args.circuit.now in
     let e : c.loop-i.i ≡ n.registers = omega (arith, c.loop-i-test.false, c.loop-i.auto.i-end, c.registers-i-end.ensures) in
-    let x : 2 * n.registers ≡ 2 * c.registers-first_input.result = ap (λ r. 2 * r) (sym c.registers-first_input.ensures) in
+    let x : 2 * n.registers ≡ c.first_input-first.result = omega (arith, c.first_input-first.ensures, c.registers.ensures) in
     let k : 1 + n.registers ≡ 1 + (2 * n.registers - n.registers) = omega arith in (
-      c.loop-i.invariant.0 ∙ omega (arith, e, c.registers-first_input.ensures),
+      c.loop-i.invariant.0 ∙ omega (arith, e, c.first_input-first.ensures, c.registers.ensures),
       λ w h.
           let r = subst (Registers (alone n) (g.S.Store.shows c.args.store.now) (g.S.Store.shows c.loop-i.store) c.loop-i.numbers.items c.loop-i.copies.items) e (c.loop-i.invariant.2 w h) in
           subst (Inputs (alone n) (g.S.Store.shows c.args.store.now) (g.S.Store.shows c.loop-i.store) c.loop-i.numbers.items c.loop-i.copies.items) x
@@ -85,23 +85,23 @@ pub returns-in_err-input-clause-makes : goal.returns-in_err-input-clause-makes
 returns-in_err-input-clause-makes g c w h =
     let n = netlist c.args.circuit.now in
     broke c.from_residual-in_err-input.result c.in_err-input.field-0.0 c.from_residual-in_err-input.ensures.1
-    (refused_next (alone n) _ (valid_alone n c.args.circuit.now.sound) w _ _ c.loop-x.x _ (omega (arith, c.loop-x-test.true, c.registers-first_input.ensures, c.inputs.ensures))
+    (refused_next (alone n) _ (valid_alone n c.args.circuit.now.sound) w _ _ c.loop-x.x _ (omega (arith, c.loop-x-test.true, c.first_input-first.ensures, c.registers.ensures, c.inputs.ensures))
     (c.loop-x.invariant.1 w h).0 c.in_err-input.ensures)
 
 pub loop-x-preserved : goal.loop-x-preserved
 loop-x-preserved g c =
     let n = netlist c.args.circuit.now in (
-      c.push-in-loop-x.ensures.len ∙ omega (arith, c.loop-x.invariant.0, c.loop-x.auto.x, c.registers-first_input.ensures),
+      c.push-in-loop-x.ensures.len ∙ omega (arith, c.loop-x.invariant.0, c.loop-x.auto.x, c.first_input-first.ensures, c.registers.ensures),
       λ w h.
           inputs_more (alone n) _ (valid_alone n c.args.circuit.now.sound) w _ _ c.loop-x.numbers.items c.loop-i.copies.items c.loop-x.x c.in_ok-input.input
-          (omega (arith, c.loop-x.auto.x, c.registers-first_input.ensures)) (omega (arith, c.loop-x-test.true, c.registers-first_input.ensures, c.inputs.ensures))
+          (omega (arith, c.loop-x.auto.x, c.first_input-first.ensures, c.registers.ensures)) (omega (arith, c.loop-x-test.true, c.first_input-first.ensures, c.registers.ensures, c.inputs.ensures))
           (c.loop-x.invariant.1 w h) c.in_ok-input.ensures c.loop-x.invariant.0 _ c.push-in-loop-x.ensures.items,
     )
 
 pub returns : goal.returns
 returns g c =
     let n = netlist c.args.circuit.now in
-    let e : c.loop-x.x ≡ width (alone n) = omega (arith, c.loop-x-test.false, c.loop-x.auto.x-end, c.registers-first_input.ensures, c.inputs.ensures) in
+    let e : c.loop-x.x ≡ width (alone n) = omega (arith, c.loop-x-test.false, c.loop-x.auto.x-end, c.first_input-first.ensures, c.registers.ensures, c.inputs.ensures) in
     let i : c.loop-i.i ≡ n.registers = omega (arith, c.loop-i-test.false, c.loop-i.auto.i-end, c.registers-i-end.ensures) in
     record {
       lines = c.loop-x.invariant.0 ∙ omega (arith, e);

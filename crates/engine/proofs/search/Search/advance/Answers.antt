@@ -15,12 +15,12 @@ returns-then-is_full-clause-next g c =
     let e : array_vec_len c.args.self.now.earlier ≡ 256 = eqb-true _ _ (sym c.is_full.ensures.value ∙ c.if-is_full.true) in
     when_many (searching (g.S.Store.shows c.args.store.now) c.args.self.now) c.args.self.now refl (omega arith)
 
-pub returns-in_err-found-clause-next : goal.returns-in_err-found-clause-next
-returns-in_err-found-clause-next g c =
+pub returns-in_err-stage-clause-next : goal.returns-in_err-stage-clause-next
+returns-in_err-stage-clause-next g c =
     let w = searching (g.S.Store.shows c.args.store.now) c.args.self.now in
-    subst (λ r. Next w (advance r) (searching (g.S.Store.shows c.step.new.store) c.args.self.now)) (sym (handed_on c.from_residual.result c.in_err-found.field-0.0 c.from_residual.ensures.1))
-    (when_full w c.args.self.now refl c.in-Open.is (g.S.Store.shows c.step.new.store) c.in_err-found.field-0.0 c.in_err-found.ensures)
+    subst (λ r. Next w (advance r) (searching (g.S.Store.shows c.step.new.store) c.args.self.now)) (sym (handed_on c.from_residual.result c.in_err-stage.field-0.0 c.from_residual.ensures.1))
+    (when_full w c.args.self.now refl c.in-Open.is (g.S.Store.shows c.step.new.store) c.in_err-stage.field-0.0 c.in_err-stage.ensures)
 
 pub returns-clause-next : goal.returns-clause-next
-returns-clause-next g c = when_done (searching (g.S.Store.shows c.args.store.now) c.args.self.now) c.args.self.now refl c.in-Open.is (g.S.Store.shows c.step.new.store) c.in_ok-found.found _
-    refl c.push.ensures.items refl refl c.in_ok-found.ensures
+returns-clause-next g c = when_done (searching (g.S.Store.shows c.args.store.now) c.args.self.now) c.args.self.now refl c.in-Open.is (g.S.Store.shows c.step.new.store) c.in_ok-stage.stage _
+    refl c.push.ensures.items refl c.in_ok-stage.ensures

@@ -13,28 +13,30 @@ use Rattle.engine.specs.Questions.{Tells, Readable}
 use Rattle.runs.specs.Systems.{State, Input}
 use Rattle.making.specs.declared.fault.Fault.{Fault}
 use Rattle.making.specs.Making.{unpaired}
+use Rattle.making.specs.Loads.{registers_of}
 use Rattle.std.proofs.Common.{Result, Bool, Ok}
 
 pub loop-bit-init : goal.loop-bit-init
 loop-bit-init g c =
     let k = c.args.self.now.parts in
     let e = ap (λ i. i.iter.rest.now) c.into_iter-bit-iterator.ensures.into_iter_gives ∙ ap (λ i. i.rest.now) c.rev-bit-items.ensures.source ∙ c.iter.ensures.rest ∙ c.deref.ensures.0 in
-    let few = k.registers in
-    let n : length c.into_iter-bit-iterator.result.iter.rest.now ≡ k.n = omega (arith, ap length e, k.led) in
+    let few = c.deref.ensures.1 in
+    let n : length c.into_iter-bit-iterator.result.iter.rest.now ≡ registers_of k = omega (arith, ap length e, k.led) in
     (tt, tt, refl, ([], append-nil _ ∙ e, omega arith), λ m h lq lv. sym (div-eq_of_lt (subst (λ i. (system m).next c.args.step.state c.args.step.input < 2 ^ i) (sym (n ∙ h.registers)) (closed m h.valid c.args.step.state c.args.step.input lq lv))))
 
 -- the place of the number that is read, and the bits that were read before it
-fits : (g : _) (c : In-Some g) → (length c.next.new.self.iter.rest.now < c.args.self.now.parts.n) × (c.loop-bit.next < 128)
+fits : (g : _) (c : In-Some g) → (length c.next.new.self.iter.rest.now < registers_of c.args.self.now.parts) × (c.loop-bit.next < 128)
 fits g c =
     let k = c.args.self.now.parts in
     let d = c.loop-bit.invariant.3 in
     let a = in_all _ _ d.0 _ c.in-Some.bit.now c.in-Some.ensures.steps d.1 in
     let b = k.led in
-    let few = k.registers in
+    let few = c.deref.ensures.1 in
+    let e = ap length c.deref.ensures.0 in
     (omega arith, room (length d.0) c.loop-bit.next (omega arith) d.2)
 
 told : (g : _) (c : In-Some g) (m : Model) → Readable (g.S.Store.shows c.args.store.now) m c.args.self.now.parts → State (system m) c.args.step.state → Input (system m) c.args.step.input
-    → (r : Result Bool Fault) → Tells (g.S.Store.shows c.loop-bit.store) c.args.self.now.parts.n c.in-Some.bit.now.function c.args.step.state c.args.step.input r
+    → (r : Result Bool Fault) → Tells (g.S.Store.shows c.loop-bit.store) (registers_of c.args.self.now.parts) c.in-Some.bit.now.function c.args.step.state c.args.step.input r
     → r ≡ Ok (bit (length c.next.new.self.iter.rest.now) ((system m).next c.args.step.state c.args.step.input))
 told g c m h lq lv r t =
     let k = c.args.self.now.parts in

@@ -8,7 +8,7 @@ use Rattle.making.proofs.Steps.{ends_before, ends_refused, broke}
 use Rattle.runs.specs.Models.{Model}
 use Rattle.runs.specs.Valuations.{back_fn}
 use Rattle.engine.specs.Advancing.{Ready}
-use Rattle.engine.proofs.Steps.{back_at, last_at, equal_at, lies, backed, settled, grown, met, still_open, now_unsafe, at_count}
+use Rattle.engine.proofs.Steps.{back_at, last_at, equal_at, lies, backed, settled, grown, met, reached, at_count}
 use Rattle.engine.proofs.search.Search.step.Goals as goal
 use Rattle.engine.proofs.search.Search.step.Goals.{After-place_at}
 
@@ -45,38 +45,26 @@ returns-then-set-self g c m j e = at_count m _ _ (c.len-count.ensures.value ∙ 
     let o = next g b m d c.in_ok-set.set c.in_ok-set.was in
     settled m c.len-count.result _ c.args.self.now d c.in_ok-set.set o.0 o.1 (lawful g b m d c.in_ok-set.set c.in_ok-set.was) c.if-set-self.true)
 
-pub returns-in_err-place_at : goal.returns-in_err-place_at
-returns-in_err-place_at g c m j e = at_count m _ _ (c.len-count.ensures.value ∙ e.count) e (λ d.
-    let b = (goal.at.returns-in_err-place_at g c).After-place_at in
+pub returns-in_err-met : goal.returns-in_err-met
+returns-in_err-met g c m j e = at_count m _ _ (c.len-count.ensures.value ∙ e.count) e (λ d.
+    let b = (goal.at.returns-in_err-met g c).After-place_at in
     let i = c.len-count.result in
     let a = c.in_ok-set.set in
     let k = c.args.self.now in
     let o = next g b m d a c.in_ok-set.was in
     let l = lawful g b m d a c.in_ok-set.was in
     grown m i _ k d a o.0 o.1 l c.if-set-self.false
-    (broke c.from_residual-in_err-place_at.result c.in_err-place_at.field-0.0 c.from_residual-in_err-place_at.ensures.1
-    (ends_refused (placed_err Sets i c.and.result c.place_at-else-set-self.ensures (refl, refl, tt) (met m i _ k d a o.0 o.1 l _ c.and.result c.and.ensures) c.in_err-place_at.was))))
+    (broke c.from_residual-in_err-met.result c.in_err-met.field-0.0 c.from_residual-in_err-met.ensures.1
+    (ends_refused (placed_err Sets i c.and.result c.place_at-else-set-self.ensures (refl, refl, tt) (met m i _ k d a o.0 o.1 l _ c.and.result c.and.ensures) c.in_err-met.was))))
 
-pub returns-then-branch-eq-FALSE : goal.returns-then-branch-eq-FALSE
-returns-then-branch-eq-FALSE g c m j e = at_count m _ _ (c.len-count.ensures.value ∙ e.count) e (λ d.
-    let b = (goal.at.returns-then-branch-eq-FALSE g c).After-place_at in
+pub returns-in_ok-met : goal.returns-in_ok-met
+returns-in_ok-met g c m j e = at_count m _ _ (c.len-count.ensures.value ∙ e.count) e (λ d.
+    let b = (goal.at.returns-in_ok-met g c).After-place_at in
     let i = c.len-count.result in
     let a = c.in_ok-set.set in
     let k = c.args.self.now in
     let o = next g b m d a c.in_ok-set.was in
     let l = lawful g b m d a c.in_ok-set.was in
-    let p = placed_ok Sets i c.and.result c.place_at-else-set-self.ensures (refl, refl, tt) (met m i _ k d a o.0 o.1 l _ c.and.result c.and.ensures) c.in_ok-place_at.was in
+    let p = placed_ok Sets i c.and.result c.place_at-else-set-self.ensures (refl, refl, tt) (met m i _ k d a o.0 o.1 l _ c.and.result c.and.ensures) c.in_ok-met.was in
     grown m i _ k d a o.0 o.1 l c.if-set-self.false
-    (made p.0 (still_open m i _ k d a o.0 o.1 l c.if-set-self.false c.in_ok-place_at.field-0 p.0 p.1 c.and.ensures.after c.if-branch-eq-FALSE.true)))
-
-pub returns-else-branch-eq-FALSE : goal.returns-else-branch-eq-FALSE
-returns-else-branch-eq-FALSE g c m j e = at_count m _ _ (c.len-count.ensures.value ∙ e.count) e (λ d.
-    let b = (goal.at.returns-else-branch-eq-FALSE g c).After-place_at in
-    let i = c.len-count.result in
-    let a = c.in_ok-set.set in
-    let k = c.args.self.now in
-    let o = next g b m d a c.in_ok-set.was in
-    let l = lawful g b m d a c.in_ok-set.was in
-    let p = placed_ok Sets i c.and.result c.place_at-else-set-self.ensures (refl, refl, tt) (met m i _ k d a o.0 o.1 l _ c.and.result c.and.ensures) c.in_ok-place_at.was in
-    grown m i _ k d a o.0 o.1 l c.if-set-self.false
-    (made p.0 (now_unsafe m i _ k d a o.0 o.1 l c.if-set-self.false c.in_ok-place_at.field-0 p.0 p.1 c.and.ensures.after c.if-branch-eq-FALSE.false)))
+    (made p.0 (reached m i _ k d a o.0 o.1 l c.if-set-self.false c.in_ok-met.met p.0 p.1 c.and.ensures.after _ c.verdict_at-verdict.ensures)))

@@ -1,0 +1,15 @@
+ghost use Rattle.std.specs.Prelude.{◌≤◌};
+
+// How many advances a search has made.
+#[derive(Clone, Copy)]
+pub struct Depth {
+    pub advances: u16,
+    ghost few: { advances ≤ 256 },
+}
+
+// What a search has settled on, and at which depth.
+#[derive(Clone, Copy)]
+pub enum Settled {
+    Safe(Depth),
+    Unsafe(Depth),
+}
