@@ -40,13 +40,21 @@ fn fill<S: Store>(rt: &impl Abort, store: &mut S, heap: Global) -> Result<u16, F
     Ok(last)
 }
 
+// With a link for each record, and with links for half of them.
 #[test]
 fn full_diagram(rt: HostRuntime) -> Result<(), Fail> {
     let mut records = vec![in rt.alloc(); Node::default(); MOST + 1]?;
     assert_eq!(rt; check_diagram(15, &records), Err(Unfit::Store));
     records.truncate(MOST);
-    let mut store = Diagram::new(15, &mut records);
-    let last = fill(&rt, &mut store, rt.alloc())?;
+    let mut links = vec![in rt.alloc(); 1; MOST]?;
+    fills(&rt, Diagram::new(15, &mut records, &mut links), rt.alloc())?;
+    links.truncate(MOST / 2);
+    fills(&rt, Diagram::new(15, &mut records, &mut links), rt.alloc())
+}
+
+// Whether a store of 15 variables is filled to its last number, which is of a function that is somewhere true.
+fn fills<S: Store + Drop>(rt: &impl Abort, mut store: S, heap: Global) -> Result<(), Fail> {
+    let last = fill(rt, &mut store, heap)?;
     assert_eq!(rt; last, 65535);
     assert_eq!(rt; store.figures().used, 65534);
     let mut held = false;
@@ -78,7 +86,8 @@ fn cells<S: Store>(store: &mut S, heap: Global) -> Result<Vec<u16>, Fail> {
 #[test]
 fn full_table(rt: HostRuntime) -> Result<(), Fail> {
     let mut records = vec![in rt.alloc(); Truths::default(); MOST]?;
-    let mut store = Table::new(4, &mut records);
+    let mut links = vec![in rt.alloc(); 0; MOST]?;
+    let mut store = Table::new(4, &mut records, &mut links);
     let cells = cells(&mut store, rt.alloc())?;
     let mut unions = Vec::new(rt.alloc());
     unions.push(0)?;

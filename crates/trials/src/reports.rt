@@ -10,7 +10,8 @@ use std::test::Fail;
 // The text of the report on a job, in a store of so many records.
 fn text_of(heap: Global, job: &[u8], records: usize) -> Result<String, AllocError> {
     let mut nodes = vec![in heap; Node::default(); records]?;
-    let report = report_on(job, Diagram::new(24, &mut nodes));
+    let mut links = vec![in heap; 0; records]?;
+    let report = report_on(job, Diagram::new(24, &mut nodes, &mut links));
     format!(in heap; "{report}")
 }
 

@@ -93,14 +93,21 @@ fn search<S: Store + Drop>(store: S, source: Source) -> Result<Told, Fault> {
 fn agree(rt: &impl Abort, source: Source, told: Told) -> Result<(), Fail> {
     let mut nodes = [Node::default(); 300];
     let mut tables = [Truths::default(); 100];
-    assert_eq!(rt; search(Diagram::new(10, &mut nodes), source)?, told);
-    assert_eq!(rt; search(Table::new(10, &mut tables), source)?, told);
+    let mut links = [0; 300];
+    assert_eq!(rt; search(Diagram::new(10, &mut nodes, &mut links), source)?, told);
+    assert_eq!(rt; search(Table::new(10, &mut tables, &mut links), source)?, told);
     assert_eq!(rt;
-        search(Layer::new(Diagram::new(10, &mut nodes), &ORDER), source)?,
+        search(
+            Layer::new(Diagram::new(10, &mut nodes, &mut links), &ORDER),
+            source
+        )?,
         told
     );
     assert_eq!(rt;
-        search(Layer::new(Table::new(10, &mut tables), &ORDER), source)?,
+        search(
+            Layer::new(Table::new(10, &mut tables, &mut []), &ORDER),
+            source
+        )?,
         told
     );
     Ok(())
@@ -201,7 +208,7 @@ fn room_in_every_part(rt: HostRuntime) -> Result<(), Fail> {
     for (records, &(part, place)) in places.iter().enumerate() {
         let mut tables = vec![in rt.alloc(); Truths::default(); records]?;
         assert_eq!(rt;
-            refusal(Table::new(10, &mut tables), source),
+            refusal(Table::new(10, &mut tables, &mut []), source),
             Some(Notice {
                 number: 10,
                 part,
@@ -210,7 +217,7 @@ fn room_in_every_part(rt: HostRuntime) -> Result<(), Fail> {
         );
     }
     let mut tables = [Truths::default(); 24];
-    assert_eq!(rt; refusal(Table::new(10, &mut tables), source), None);
+    assert_eq!(rt; refusal(Table::new(10, &mut tables, &mut []), source), None);
     Ok(())
 }
 
@@ -253,8 +260,9 @@ fn safe_calls<S: Store + Drop>(rt: &impl Abort, store: S) {
 fn calls_out_of_turn(rt: HostRuntime) {
     let mut nodes = [Node::default(); 100];
     let mut tables = [Truths::default(); 50];
-    calls(&rt, Diagram::new(3, &mut nodes));
-    calls(&rt, Table::new(3, &mut tables));
-    safe_calls(&rt, Diagram::new(3, &mut nodes));
-    safe_calls(&rt, Table::new(3, &mut tables));
+    let mut links = [0; 100];
+    calls(&rt, Diagram::new(3, &mut nodes, &mut links));
+    calls(&rt, Table::new(3, &mut tables, &mut links));
+    safe_calls(&rt, Diagram::new(3, &mut nodes, &mut links));
+    safe_calls(&rt, Table::new(3, &mut tables, &mut links));
 }

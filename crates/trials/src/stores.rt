@@ -66,22 +66,30 @@ fn layer<S: Store>(store: S) -> Layer<S> {
     Layer::new(store, &ORDER)
 }
 
+// With a link for each record, for some of them and for none; what the links held before does not matter.
 #[test]
 fn makes_agree(rt: HostRuntime) -> Result<(), Fail> {
     let heap = rt.alloc();
     let mut nodes = [Node::default(); 300];
     let mut tables = [Truths::default(); 100];
-    let told = driven(Diagram::new(4, &mut nodes), heap)?;
+    let mut links = [7; 300];
+    let told = driven(Diagram::new(4, &mut nodes, &mut links), heap)?;
     assert_eq!(rt; told.get(2).copied(), Some(0xf0f0));
-    assert_eq!(rt; driven(Table::new(4, &mut tables), heap)?, told);
-    assert_eq!(rt; driven(layer(Diagram::new(4, &mut nodes)), heap)?, told);
-    assert_eq!(rt; driven(layer(Table::new(4, &mut tables)), heap)?, told);
+    assert_eq!(rt; driven(Table::new(4, &mut tables, &mut links), heap)?, told);
     assert_eq!(rt;
-        driven(layer(layer(Diagram::new(4, &mut nodes))), heap)?,
+        driven(layer(Diagram::new(4, &mut nodes, &mut links[0..20])), heap)?,
         told
     );
     assert_eq!(rt;
-        driven(layer(layer(Table::new(4, &mut tables))), heap)?,
+        driven(layer(Table::new(4, &mut tables, &mut links[0..20])), heap)?,
+        told
+    );
+    assert_eq!(rt;
+        driven(layer(layer(Diagram::new(4, &mut nodes, &mut []))), heap)?,
+        told
+    );
+    assert_eq!(rt;
+        driven(layer(layer(Table::new(4, &mut tables, &mut []))), heap)?,
         told
     );
     Ok(())
@@ -105,17 +113,25 @@ fn bare<S: Store + Drop>(rt: &impl Abort, mut store: S) {
 
 #[test]
 fn stores_with_no_records(rt: HostRuntime) {
-    bare(&rt, Diagram::new(2, &mut []));
-    bare(&rt, Table::new(2, &mut []));
-    bare(&rt, Layer::new(Diagram::new(2, &mut []), &[1, 0]));
-    bare(&rt, Layer::new(Table::new(2, &mut []), &[1, 0]));
+    bare(&rt, Diagram::new(2, &mut [], &mut []));
+    bare(&rt, Table::new(2, &mut [], &mut []));
+    bare(&rt, Layer::new(Diagram::new(2, &mut [], &mut []), &[1, 0]));
+    bare(&rt, Layer::new(Table::new(2, &mut [], &mut []), &[1, 0]));
 }
 
 // The last records of a diagram: a price of 2 is refused with 1 unit free, and nothing changes.
 #[test]
 fn last_records(rt: HostRuntime) -> Result<(), Fail> {
     let mut nodes = [Node::default(); 5];
-    let mut store = Diagram::new(3, &mut nodes);
+    let mut links = [65535; 7];
+    for count in [0, 3, 7] {
+        let store = Diagram::new(3, &mut nodes, &mut links[0..count]);
+        fills_up(&rt, store)?;
+    }
+    Ok(())
+}
+
+fn fills_up<S: Store + Drop>(rt: &impl Abort, mut store: S) -> Result<(), Fail> {
     let a = store.variable(0)?;
     let b = store.variable(1)?;
     let c = store.variable(2)?;
@@ -143,7 +159,7 @@ fn makings_are_checked(rt: HostRuntime) {
     assert_eq!(rt; check_diagram(25, &[]), Err(Unfit::Store));
     assert_eq!(rt; check_table(10, &[]), Ok(()));
     assert_eq!(rt; check_table(11, &[]), Err(Unfit::Store));
-    let mut store = Table::new(11, &mut []);
+    let mut store = Table::new(11, &mut [], &mut []);
     assert_eq!(rt;
         store.figures(),
         Figures {
