@@ -51,14 +51,15 @@ loaded_by {x = x} {a = a} {p = p} {r = r} s w v e u k n =
     let z = n [] empty u k in
     subst (λ i. MatchResult r (λ y. Began i x a p y v) (Unbegun i x a p)) e (loading v z.0 (last_step z.1) z.1 z.2)
 
+-- an empty session stays so, and is not advanced
 module _ (w v : World) (k : Keeps empty w) where
-  asking : {s : Shown} {x : Stand} {r : Verdict} → Step (stand empty s) (ask r) x → r ≡ answer.Empty
-  asking asks = refl
+  asking : {t : Shown} {r : Verdict} (st : State) → Step (stand empty t) (ask r) (stand st v.store) → Keeps st v → Keeps empty v × (r ≡ answer.Empty)
+  asking st asks k = (k, refl)
 
-  pub asked_empty : {r : Verdict} → Next w (ask r) v → r ≡ answer.Empty
-  asked_empty n = asking (last_step (n [] empty uses.begun k).1)
+  pub asked_empty : {r : Verdict} → Next w (ask r) v → Keeps empty v × (r ≡ answer.Empty)
+  asked_empty n = let z = n [] empty uses.begun k in asking z.0 (last_step z.1) z.2
 
-  refusing : {s : Shown} {x : Stand} {r : Result Verdict Refusal} → Step (stand empty s) (advance r) x → r ≡ Err Empty
+  refusing : {t : Shown} {x : Stand} {r : Result Verdict Refusal} → Step (stand empty t) (advance r) x → r ≡ Err Empty
   refusing advance_empty = refl
 
   pub refused_empty : {r : Result Verdict Refusal} → Next w (advance r) v → r ≡ Err Empty
@@ -85,11 +86,12 @@ module _ (s : Shown) (m : Model) (j : ℕ) where
       → MatchResult r (λ y. Come s m (suc j) v × (y ≡ told (loaded m (suc j)))) (Short s m)
   advanced_by w v c o n = let z = n c.past (loaded m j) c.led c.keeps in advancing v z.0 (last_step z.1) z.1 z.2 c.searched o
 
-  answering : {t : Shown} {x : Stand} {r : Verdict} → Step (stand (loaded m j) t) (ask r) x → r ≡ told (loaded m j)
-  answering asks = refl
+  answering : {t : Shown} {r : Verdict} {h : List Event} (v : World) (st : State) → Step (stand (loaded m j) t) (ask r) (stand st v.store) → Use h (stand st v.store)
+      → Keeps st v → Searched m s j t → Come s m j v × (r ≡ told (loaded m j))
+  answering {h = h} v st asks u k f = (record { past = h; led = u; keeps = k; searched = f }, refl)
 
-  pub answered_by : {r : Verdict} (w v : World) → Come s m j w → Next w (ask r) v → r ≡ told (loaded m j)
-  answered_by w v c n = answering (last_step (n c.past (loaded m j) c.led c.keeps).1)
+  pub answered_by : {r : Verdict} (w v : World) → Come s m j w → Next w (ask r) v → Come s m j v × (r ≡ told (loaded m j))
+  answered_by w v c n = let z = n c.past (loaded m j) c.led c.keeps in answering v z.0 (last_step z.1) z.1 z.2 c.searched
 
   telling : {t : Shown} {x : Stand} {q : ℕ} {r : Result Bool Refusal} → Step (stand (loaded m j) t) (inside q r) x → verdict (system m) j ≡ safe → q < 2 ^ m.circuit.registers
       → r ≡ Ok (search.inside (system m) j q)
