@@ -1,10 +1,9 @@
 -- The numbers of a task, and what they give it.
-use Rattle.std.proofs.Common.{◌≡◌, ℕ, zero, suc, ◌+◌, ◌<◌, ◌≤◌, Bool, true, false, not, length, Some, None, Option, SomeIff, ◌-◌, sym, refl, ap, ◌∙◌, subst, ap₂, inl, inr, arith}
-use mir.Val.{bool_byte}
+use Rattle.std.proofs.Common.{◌≡◌, ℕ, zero, suc, ◌+◌, ◌<◌, ◌≤◌, Bool, not, length, Some, None, Option, SomeIff, ◌-◌, sym, refl, ap, ◌∙◌, ap₂, inl, inr, arith}
 use Rattle.std.proofs.lemmas.Bool.{ltb-true, lt-ltb, and_from}
 use Rattle.store.specs.Tasks.{applied, asked, Posed}
-use Rattle.store.specs.Fun.{bit, fix, fixed, Same}
-use Rattle.store.proofs.Bit.{bit_fixed_same, bit_fixed_other, fixed_lt, fixed_comm}
+use Rattle.store.specs.Fun.{fix, fixed, Same}
+use Rattle.store.proofs.Bit.{bit_fixed_other, fixed_lt, fixed_comm}
 use Rattle.nodes.specs.Graph.{value, top}
 use Rattle.nodes.specs.Growth.{Ext, Halved, Splits}
 use Rattle.nodes.proofs.Reading.{reads}
@@ -54,19 +53,7 @@ module _ (d : Diagram) where
   held_number : (a v : ℕ) (t : Bool) (r : ℕ) → Number (listed d) a → Halved d.n (listed d) a v t r → Number (listed d) r
   held_number a v t r n h = lt-ltb r (length (listed d) + 2) (h.held (number (listed d) a n))
 
-  -- the halves of a variable are the constants
-  pub half_variable : (i v : ℕ) → v ≡ i → v < d.n → (t : Bool) → HalvedTask d (Variable i) v t (Not (bool_byte (not t)))
-  half_variable i v e l true = record {
-    posed = (lt-ltb 0 (length (listed d) + 2) (omega arith), refl);
-    under = l;
-    means = λ w _. subst (λ (j : ℕ). bit j (fixed v true w) ≡ true) e (bit_fixed_same v true w);
-  }
-  half_variable i v e l false = record {
-    posed = (lt-ltb 1 (length (listed d) + 2) (omega arith), refl);
-    under = l;
-    means = λ w _. subst (λ (j : ℕ). bit j (fixed v false w) ≡ false) e (bit_fixed_same v false w);
-  }
-
+  -- the halves of a task, of which the operands are halved
   pub half_not : (a v : ℕ) (t : Bool) (r : ℕ) → Posed (showing d) (Not a) → Halved d.n (listed d) a v t r → HalvedTask d (Not a) v t (Not r)
   half_not a v t r p h = record { posed = (held_number a v t r p.0 h, refl); under = h.under; means = λ w lt. ap not (h.means w lt) }
 

@@ -10,6 +10,7 @@ use store::task::{Task, check_value};
 impl Store for Diagram<'_> {
     ghost shows = { λ d. showing d };
 
+    // Inlined into each call, where the kind of the task is known.
     #[inline(always)]
     fn answer(&mut self, task: Task) -> Result<u16, Refusal> {
         let used = self.nodes.len();

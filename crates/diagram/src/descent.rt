@@ -33,7 +33,7 @@ impl Diagram<'_> {
         Ok(self.nodes.find_or_add(node)? as u16 + 2)
     }
 
-    // The number of the function that a task asks for, by its halves.
+    // The number of the function that a task of one kind asks for.
     fn descend<T: Expand>(&mut self, kind: T) -> Result<u16, Full>
         requires { Posed (showing self.old) (T.asks kind) }
         ensures { Makes self.old (T.asks kind) result self.new }
@@ -53,7 +53,7 @@ impl Diagram<'_> {
         Ok(number)
     }
 
-    // The number of the function that the task asks for.
+    // The number of the function that the task asks for. Inlined into each call, where its kind is known.
     #[inline(always)]
     pub(super) fn make(&mut self, task: Task) -> Result<u16, Full>
         requires { Posed (showing self.old) task }

@@ -1,5 +1,5 @@
-// The kinds of tasks that are made by Shannon's expansion, each with its operands: its halves are of the same kind.
-// A kind for each, and no match on the task at each step: a descent stays in its kind.
+// The kinds of tasks that are made by Shannon's expansion: from their halves by the first variable, which are of the same kind.
+// A type for each kind, and no enum: a descent stays in its kind, and with a match at each step it was slower.
 ghost use Rattle.std.specs.Prelude.{◌≡◌, None, true, false};
 ghost use Rattle.store.specs.declared.task.Task.{Task};
 ghost use Rattle.store.specs.declared.task.Task.TheVariants.{Not, Both, Cofactor};
@@ -13,6 +13,7 @@ use super::operator::{Operator, by_sides};
 use store::task::Task;
 
 pub(super) trait Expand: Copy {
+    // Which task it is.
     ghost asks: { Self → Task };
 
     fn task(self) -> Task
@@ -26,12 +27,13 @@ pub(super) trait Expand: Copy {
     // The first variable that the function may depend on, and the halves where it is false and where it is true.
     fn expand(self, diagram: &Diagram) -> (u8, Self, Self)
         requires posed { Posed (showing diagram.now) (asks self) }
-        requires open { Settled diagram.now (asks self) None }
+        requires unsettled { Settled diagram.now (asks self) None }
         ensures first { result.0 ≡ peak diagram.now.n (listed diagram.now) (asks self) }
         ensures low { HalvedTask diagram.now (asks self) result.0 false (asks result.1) }
         ensures high { HalvedTask diagram.now (asks self) result.0 true (asks result.2) };
 }
 
+// Not a.
 #[derive(Clone, Copy)]
 pub(super) struct Complement {
     pub a: u16,
@@ -57,6 +59,7 @@ impl Expand for Complement {
     }
 }
 
+// a and b under an operator.
 #[derive(Clone, Copy)]
 pub(super) struct Apply<O: Operator> {
     pub op: O,
@@ -94,6 +97,7 @@ impl<O: Operator> Expand for Apply<O> {
     }
 }
 
+// a with variable i fixed to t.
 #[derive(Clone, Copy)]
 pub(super) struct Restrict {
     pub a: u16,

@@ -26,6 +26,7 @@ pub struct Memo {
     slots: [Slot; SLOTS],
 }
 
+// Inlined like all here, since where the kind of a task is known, its key and its comparison are straight code.
 // The kind of the task and its operands, side by side. No derived hash: a hasher to take it would say the same in more lines.
 #[inline(always)]
 fn key(task: Task) -> u64

@@ -9,7 +9,8 @@ use super::Diagram;
 use nodes::Node;
 use store::bits::bit;
 
-// A number with its node, read once; with a leaf where it has none: under the number of variables, and over the number.
+// A number with its node, which is read once. A number that has none has a leaf here, with the number of variables for
+// its variable and the number itself for its children.
 #[derive(Clone, Copy)]
 pub(super) struct Operand {
     number: u16,
@@ -17,7 +18,7 @@ pub(super) struct Operand {
 }
 
 impl Operand {
-    // The variable on top of the number, and the number of variables where it has no node.
+    // The variable on top.
     pub(super) fn top(self) -> u8
         ensures { result ≡ self.node.variable }
     {

@@ -9,7 +9,7 @@ returns-clause-low c =
     let a = c.args.self.a in
     let o = c.operand-a.ensures in
     half_not d a c.top-variable.result false c.half-off.result c.requires.posed
-    (half_read d a c.operand-a.result o c.top-variable.result false _ c.half-off.ensures (omega (arith, top_read d a c.operand-a.result o, c.top-variable.ensures, c.requires.open.0)) (omega (arith, c.top-variable.ensures)))
+    (half_read d a c.operand-a.result o c.top-variable.result false _ c.half-off.ensures (omega (arith, top_read d a c.operand-a.result o, c.top-variable.ensures, c.requires.unsettled.0)) (omega (arith, c.top-variable.ensures)))
 
 pub returns-clause-high : goal.returns-clause-high
 returns-clause-high c =
@@ -17,4 +17,4 @@ returns-clause-high c =
     let a = c.args.self.a in
     let o = c.operand-a.ensures in
     half_not d a c.top-variable.result true c.half-on.result c.requires.posed
-    (half_read d a c.operand-a.result o c.top-variable.result true _ c.half-on.ensures (omega (arith, top_read d a c.operand-a.result o, c.top-variable.ensures, c.requires.open.0)) (omega (arith, c.top-variable.ensures)))
+    (half_read d a c.operand-a.result o c.top-variable.result true _ c.half-on.ensures (omega (arith, top_read d a c.operand-a.result o, c.top-variable.ensures, c.requires.unsettled.0)) (omega (arith, c.top-variable.ensures)))
