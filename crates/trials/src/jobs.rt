@@ -1,7 +1,7 @@
 // Job frames, and what is reported of them.
 use circuit::refusal::Refusal;
-use circuit::sort::Sort;
 use circuit::sizes::Sizes;
+use circuit::sort::Sort;
 use claim::fault::Fault as Misreading;
 use description::fault::Fault as Misdescription;
 use description::notice::Notice;
