@@ -1,8 +1,8 @@
 // Circuit files at each bound of each check.
 use circuit::read;
 use circuit::refusal::Refusal;
-use circuit::sort::Sort;
 use circuit::sizes::Sizes;
+use circuit::sort::Sort;
 use std::alloc::{AllocError, Global};
 use std::test::Fail;
 

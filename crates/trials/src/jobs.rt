@@ -1,7 +1,7 @@
 // Job frames, and the checks of what is in them.
 use circuit::refusal::Refusal;
-use circuit::sort::Sort;
 use circuit::sizes::Sizes;
+use circuit::sort::Sort;
 use claim::fault::Fault as Misreading;
 use decide::fault::Fault;
 use description::describe;
