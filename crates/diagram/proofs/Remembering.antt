@@ -46,7 +46,7 @@ module _ (n : ℕ) (xs : List Node) (c : ℕ) where
 
   pub blank_right : (memo : Memo) → memo ≡ all_blank → Right n xs c memo
   unfolding all_blank
-  blank_right memo e = subst (Right n xs c) (sym e) (record { at = λ k. subst (RightSlot n xs c) (sym (blanks 4096 k)) blank_slot_right })
+  blank_right memo e = subst (Right n xs c) (sym e) (record { at = λ k. subst (RightSlot n xs c) (sym (blanks 8192 k)) blank_slot_right })
 
   -- a slot after a write is what was written or what was there
   written : (l : List Slot) (i : ℕ) (a : Slot) (k : ℕ) → (get_or (set l i a) k blank ≡ a) ⊎ (get_or (set l i a) k blank ≡ get_or l k blank)

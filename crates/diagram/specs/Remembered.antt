@@ -20,16 +20,16 @@ key (Both And a b) = (2 * 65536 + a) * 65536 + b
 key (Both Or a b) = (3 * 65536 + a) * 65536 + b
 key (Cofactor a i t) = (4 * 65536 + a) * 65536 + (2 * i + cond t 1 0)
 
--- its place in the table: the top 12 of 64 bits
+-- its place in the table: the top 13 of 64 bits
 unfoldable pub place : Task → ℕ
-place task = key task * 0x9e3779b97f4a7c15 % 2 ^ 64 / 2 ^ 52
+place task = key task * 0x9e3779b97f4a7c15 % 2 ^ 64 / 2 ^ 51
 
 -- not false is true
 abbrev pub blank : Slot
 blank = record { task = Not 0; number = 1 }
 
 unfoldable pub all_blank : Memo
-all_blank = record { slots = replicate 4096 blank }
+all_blank = record { slots = replicate 8192 blank }
 
 abbrev pub slot : Memo → ℕ → Slot
 slot memo k = slice_index_or memo.slots k blank

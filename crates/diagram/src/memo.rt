@@ -4,7 +4,7 @@ ghost use Rattle.diagram.specs.Remembered.{key, place, all_blank, updated, Recal
 
 use store::task::{Op, Task};
 
-const BITS: u32 = 12;
+const BITS: u32 = 13;
 
 const SLOTS: usize = 1 << BITS;
 

@@ -6,5 +6,5 @@ use Rattle.diagram.proofs.memo.Memo.clear.Goals as goal
 pub returns : goal.returns
 unfolding all_blank
 returns c =
-    let whole : length c.args.self.now.slots ≡ 4096 = omega arith in
+    let whole : length c.args.self.now.slots ≡ 8192 = omega arith in
     ap (λ (l : List Slot). record { slots = l }) (c.fill.ensures.after (λ y e. e) ∙ ap (λ n. replicate n blank) whole)
