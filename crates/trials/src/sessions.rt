@@ -94,8 +94,14 @@ fn agree(rt: &impl Abort, source: Source, told: Told) -> Result<(), Fail> {
     let mut nodes = [Node::default(); 300];
     let mut tables = [Truths::default(); 100];
     let mut links = [0; 300];
-    assert_eq!(rt; search(Diagram::new(10, &mut nodes, &mut links), source)?, told);
-    assert_eq!(rt; search(Table::new(10, &mut tables, &mut links), source)?, told);
+    assert_eq!(rt;
+        search(Diagram::new(10, &mut nodes, &mut links), source)?,
+        told
+    );
+    assert_eq!(rt;
+        search(Table::new(10, &mut tables, &mut links), source)?,
+        told
+    );
     assert_eq!(rt;
         search(
             Layer::new(Diagram::new(10, &mut nodes, &mut links), &ORDER),
