@@ -72,6 +72,7 @@ impl<'a> Index<'a> {
     pub(crate) fn truncate(&mut self, kept: usize)
         ensures { Cut self.old kept self.new }
     {
+        // By number: the check has no rule yet for a `for` over the heads, which would be lent while the links are read.
         for b in 0..BUCKETS {
             let head = self.unwind(self.heads[b], kept);
             self.heads[b] = head;
