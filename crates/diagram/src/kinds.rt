@@ -20,6 +20,7 @@ pub(super) trait Expand: Copy {
         ensures { result ≡ asks self };
 
     // The number of the function where a constant or the fixed variable gives it.
+    // Each step asks that the task is posed: a type that says so would hold the diagram, which grows between the halves.
     fn at_once(self, diagram: &Diagram) -> Option<u16>
         requires { Posed (showing diagram.now) (asks self) }
         ensures { Settled diagram.now (asks self) result };
