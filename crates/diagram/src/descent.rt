@@ -34,7 +34,6 @@ impl Diagram<'_> {
     }
 
     // The number of the function that a task of one kind asks for.
-    // Each step asks that the task is posed: a type that says so would hold the diagram, which grows between the halves.
     fn descend<T: Expand>(&mut self, kind: T) -> Result<u16, Full>
         requires { Posed (showing self.old) (T.asks kind) }
         ensures { Makes self.old (T.asks kind) result self.new }
