@@ -3,6 +3,7 @@ mod Remembering
 mod Fields
 mod Operands
 mod Tasks
+mod Expanding
 mod Twofold
 mod Recalling
 mod Replies
