@@ -13,7 +13,8 @@ use engine::session::Session;
 use making::fault::Fault;
 use store::Store;
 
-// How many of the states are inside.
+// How many of the states are inside. At most 8 registers are asked for here and in `engine` and `making`: they come of a file, of a circuit or of a list,
+// and a type for them would be made anew in each place.
 fn count_inside<S: Store>(session: &mut Session<S>, registers: u16) -> Result<u16, Fault>
     requires { registers ≤ 8 }
     ensures { CountsInside (world S.Store.shows session.old) registers result }

@@ -26,6 +26,7 @@ pub(super) trait Expand: Copy {
         ensures { Settled diagram.now (asks self) result };
 
     // The first variable that the function may depend on, and the halves where it is false and where it is true.
+    // Each kind writes both out: a closure over the truth would need clauses of its own, and more lines.
     fn expand(self, diagram: &Diagram) -> (u8, Self, Self)
         requires posed { Posed (showing diagram.now) (asks self) }
         requires unsettled { Settled diagram.now (asks self) None }
@@ -115,6 +116,7 @@ impl Expand for Restrict {
 
     fn at_once(self, diagram: &Diagram) -> Option<u16> {
         let a = diagram.operand(self.a);
+        // An `if`: of `then_some`, `returns` stayed open.
         if self.i <= a.top() {
             Some(a.half(self.i, self.t))
         } else {

@@ -2,6 +2,7 @@
 ghost use Rattle.std.specs.Prelude.{◌≡◌, ◌<◌};
 ghost use Rattle.diagram.specs.Remembered.{key, place, all_blank, updated, Recalls};
 
+use nodes::GOLDEN;
 use store::task::{Op, Task};
 
 const BITS: u32 = 13;
@@ -42,13 +43,13 @@ fn key(task: Task) -> u64
     (kind * 65536 + a) * 65536 + b
 }
 
-// The top bits of a product with 2 to the 64 by the golden ratio, which spreads keys that are close.
+// The top bits of a product that spreads keys which are close.
 #[inline(always)]
 fn place(task: Task) -> usize
     ensures hashed { result ≡ place task }
     ensures within { result < SLOTS }
 {
-    (key(task).wrapping_mul(0x9e37_79b9_7f4a_7c15) >> (64 - BITS)) as usize
+    (key(task).wrapping_mul(GOLDEN) >> (64 - BITS)) as usize
 }
 
 impl Memo {

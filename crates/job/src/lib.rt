@@ -14,7 +14,7 @@ use store::MOST_VARIABLES;
 // How many variables the store of a program has.
 pub const VARIABLES: u8 = MOST_VARIABLES;
 
-// The bytes of the longest job: the lengths, the circuit file with the most gates, and two longest texts.
+// The bytes of the longest job: the lengths, the circuit file with the most gates, and two longest texts. Written out, since a constant calls no function.
 pub const LONGEST: u64 = 4 + (6 + 4 * MOST_GATES as u64) + 2 * claim::LONGEST as u64;
 
 // Cuts a job into the circuit file, the assumption and the property.

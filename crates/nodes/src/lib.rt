@@ -17,16 +17,19 @@ pub struct Node {
     pub high: u16,
 }
 
+// 2 to the 64 by the golden ratio, whose products spread numbers that are close over their top bits.
+pub const GOLDEN: u64 = 0x9e37_79b9_7f4a_7c15;
+
 impl Entry for Node {
     ghost hashed = { λ x. mixed x };
 
     ghost exact = { node_exact };
 
-    // The fields side by side, times 2 to the 64 by the golden ratio: the top bits of the product spread nodes with neighbouring children.
+    // By the fields side by side, so that nodes with neighbouring children are spread.
     fn hash(self) -> u16 {
         let children = u64::from(self.low) + 65536 * u64::from(self.high);
         let fields = children + 65536 * 65536 * u64::from(self.variable);
-        (fields.wrapping_mul(0x9e37_79b9_7f4a_7c15) >> 48) as u16
+        (fields.wrapping_mul(GOLDEN) >> 48) as u16
     }
 }
 
