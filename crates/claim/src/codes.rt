@@ -1,5 +1,6 @@
 // The codes of one claim, operands first.
 ghost use Rattle.std.specs.Prelude.{◌≡◌, ◌≤◌, length};
+ghost use Rattle.claim.specs.declared.TheConstants.{LONGEST};
 ghost use Rattle.claim.specs.Grammar.{Tree, post};
 
 use crate::LONGEST;
@@ -10,7 +11,7 @@ use arrayvec::ArrayVec;
 pub struct Codes {
     pub(crate) list: ArrayVec<Code, LONGEST>,
     // For the callers: a lent list does not tell its capacity, and a clause of `codes` would say the same.
-    ghost within: { length list.items ≤ 512 },
+    ghost within: { length list.items ≤ LONGEST },
     ghost made: { ∥ ((t : Tree) × (list.items ≡ post t)) ∥₁ },
 }
 

@@ -1,5 +1,7 @@
 // Claim, term and factor readers. They write codes, operands first.
 ghost use Rattle.std.specs.Prelude.{◌≡◌, ℕ, ◌+◌, ◌<◌, ◌≤◌, [], ◌∷◌, length, MatchOption, MatchResult, ◌≢◌};
+ghost use Rattle.claim.specs.declared.TheConstants.{LONGEST};
+ghost use Rattle.claim.specs.declared.reader.TheConstants.{DEEPEST};
 ghost use Rattle.claim.specs.declared.lexer.Token.TheVariants.{Close, End};
 ghost use Rattle.claim.specs.Tokens.{tok, rparen, name};
 ghost use Rattle.claim.specs.Seen.{kind_of, Placed, Numeral};
@@ -22,7 +24,7 @@ pub(crate) struct Reader<'a> {
     sizes: Sizes,
     pub(crate) ahead: Lexeme<'a>,
     pub(crate) codes: ArrayVec<Code, LONGEST>,
-    ghost short: { length text.now ≤ 512 },
+    ghost short: { length text.now ≤ LONGEST },
     ghost placed: { Placed text.now ahead },
     ghost fits: { length codes.items ≤ ahead.place },
 }
@@ -40,7 +42,7 @@ fn number_below(digits: &[u8], most: u16) -> Option<u16>
 #[derive(Clone, Copy)]
 pub(crate) struct Depth {
     opened: usize,
-    ghost few: { opened ≤ 16 },
+    ghost few: { opened ≤ DEEPEST },
 }
 
 impl Depth {
@@ -48,7 +50,7 @@ impl Depth {
 
     // One more, by the token at `place`.
     fn deeper(self, place: usize) -> Result<Self, Fault>
-        ensures { MatchResult result (λ d. d.opened ≡ self.opened + 1) (λ f. (f ≡ Fault.Deep place) × (self.opened ≡ 16)) }
+        ensures { MatchResult result (λ d. d.opened ≡ self.opened + 1) (λ f. (f ≡ Fault.Deep place) × (self.opened ≡ DEEPEST)) }
     {
         if self.opened < DEEPEST {
             Ok(Depth {
@@ -64,7 +66,7 @@ impl<'a> Reader<'a> {
     ghost use Rattle.claim.specs.Reading.{ahead, Begun, Reach, Taken, Stopped};
 
     pub(crate) fn new(text: &'a [u8], sizes: Sizes) -> Self
-        requires { length text.now ≤ 512 }
+        requires { length text.now ≤ LONGEST }
         ensures { Begun text.now sizes result }
     {
         Reader {
