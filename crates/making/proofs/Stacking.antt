@@ -1,5 +1,6 @@
 -- Acts on a stack.
-use Rattle.std.proofs.Common.{◌≡◌, ℕ, ◌<◌, Bool, true, false, not, ◌&&◌, ◌||◌, List, [], ◌∷◌, ◌++◌, get_or, Ok, Result, sym, refl, ◌∙◌, subst, arith}
+use Rattle.std.proofs.Common.{◌≡◌, ℕ, ◌<◌, Bool, true, false, not, ◌&&◌, ◌||◌, List, [], ◌∷◌, ◌++◌, get_or, Ok, Result, sym, refl, ap, ◌∙◌, subst, arith}
+use Rattle.std.proofs.lemmas.List.{append_assoc}
 use mir.Val.{bool_byte}
 use Rattle.store.specs.declared.refusal.Refusal.{Refusal}
 use Rattle.store.specs.Fun.{Fn}
@@ -33,6 +34,15 @@ pops {s = s} {f = f} {fs = fs} (on e m k) h =
     let q = h _ _ e in
     (subst (λ a. Means s a f) (sym q.0) m, subst (λ xs. Stacked s xs fs) (sym q.1) k)
 
+-- the stack st' is left under the tops u
+abbrev pub PoppedTwo : List ℕ → ℕ × ℕ → List ℕ → Type 0
+PoppedTwo st u st' = (below : List ℕ) (a b : ℕ) → st ≡ below ++ a ∷ b ∷ [] → (u ≡ (a, b)) × (st' ≡ below)
+
+pops_two : {s : Shown} {st st' : List ℕ} {u : ℕ × ℕ} {f g : Fn} {fs : List Fn} → Stacked s st (g ∷ f ∷ fs) → PoppedTwo st u st' → Means s u.0 f × Means s u.1 g × Stacked s st' fs
+pops_two {s = s} {f = f} {g = g} {fs = fs} (on {a = b} e m (on {below = below} {a = a} d l k)) h =
+    let q = h below a b (e ∙ ap (λ xs. xs ++ b ∷ []) d ∙ append_assoc below (a ∷ []) (b ∷ [])) in
+    (subst (λ v. Means s v.0 f) (sym q.0) l, subst (λ v. Means s v.1 g) (sym q.0) m, subst (λ xs. Stacked s xs fs) (sym q.1) k)
+
 constant_means : {s : Shown} → Lawful s → (b : Bool) → Means s (bool_byte b) (λ _. b)
 constant_means l true = record { held = l.yes.0; same = l.yes.1 }
 constant_means l false = record { held = l.no.0; same = l.no.1 }
@@ -60,22 +70,16 @@ module _ (m : Model) (p : Part) (l : ℕ) where
       → Ends plain s t (at p l (f ∷ [])) (λ a. Standing t (st ++ a ∷ []) (f ∷ fs)) x
   result st x f fs w after k y = ends_with (λ a v m. record { lawful = after; stacked = on refl m (stacked_kept (runs_grown v) k) }) (gives_last w x y)
 
-  module _ {s t : Shown} (st st' st'' : List ℕ) (x : Result ℕ Refusal) where
+  module _ {s t : Shown} (st st' : List ℕ) (x : Result ℕ Refusal) where
     pub on_not : (a : ℕ) {fs gs k : List Fn} → Standing s st fs → Acts m Not fs k gs → Popped st a st' → Reply s t (s.held a) true (λ w. not (s.value a w)) x
         → Ends plain s t (at p l k) (λ a. Standing t (st' ++ a ∷ []) gs) x
     on_not a d (a_not {f = f} {fs = xs}) h y = let q = pops d.stacked h in result st' x (negated f) xs y.lawful y.after q.1 (not_answers y q.0)
 
-    module _ (a b : ℕ) (top : Popped st b st') (next : Popped st' a st'') where
-      pub on_and : {fs gs k : List Fn} → Standing s st fs → Acts m And fs k gs → Reply s t (s.held a && s.held b) true (λ w. s.value a w && s.value b w) x
-          → Ends plain s t (at p l k) (λ a. Standing t (st'' ++ a ∷ []) gs) x
-      on_and d (a_and {f = f} {g = g} {fs = xs}) y =
-          let q = pops d.stacked top in
-          let r = pops q.1 next in
-          result st'' x (both f g) xs y.lawful y.after r.1 (and_answers y r.0 q.0)
+    module _ (u : ℕ × ℕ) (tops : PoppedTwo st u st') where
+      pub on_and : {fs gs k : List Fn} → Standing s st fs → Acts m And fs k gs → Reply s t (s.held u.0 && s.held u.1) true (λ w. s.value u.0 w && s.value u.1 w) x
+          → Ends plain s t (at p l k) (λ a. Standing t (st' ++ a ∷ []) gs) x
+      on_and d (a_and {f = f} {g = g} {fs = xs}) y = let q = pops_two d.stacked tops in result st' x (both f g) xs y.lawful y.after q.2 (and_answers y q.0 q.1)
 
-      pub on_or : {fs gs k : List Fn} → Standing s st fs → Acts m Or fs k gs → Reply s t (s.held a && s.held b) true (λ w. s.value a w || s.value b w) x
-          → Ends plain s t (at p l k) (λ a. Standing t (st'' ++ a ∷ []) gs) x
-      on_or d (a_or {f = f} {g = g} {fs = xs}) y =
-          let q = pops d.stacked top in
-          let r = pops q.1 next in
-          result st'' x (either f g) xs y.lawful y.after r.1 (or_answers y r.0 q.0)
+      pub on_or : {fs gs k : List Fn} → Standing s st fs → Acts m Or fs k gs → Reply s t (s.held u.0 && s.held u.1) true (λ w. s.value u.0 w || s.value u.1 w) x
+          → Ends plain s t (at p l k) (λ a. Standing t (st' ++ a ∷ []) gs) x
+      on_or d (a_or {f = f} {g = g} {fs = xs}) y = let q = pops_two d.stacked tops in result st' x (either f g) xs y.lawful y.after q.2 (or_answers y q.0 q.1)

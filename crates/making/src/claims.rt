@@ -26,6 +26,16 @@ fn pop(stack: &mut Stack) -> u16
     stack.pop().unwrap_or(FALSE)
 }
 
+// Takes the two on top: the left one, and the right one above it.
+fn pop_two(stack: &mut Stack) -> (u16, u16)
+    ensures tops { (below : List ℕ) (a b : ℕ) → stack.old.items ≡ below ++ a ∷ b ∷ [] → (result ≡ (a, b)) × (stack.new.items ≡ below) }
+    ensures lower { length stack.new.items ≤ length stack.old.items }
+{
+    let b = pop(stack);
+    let a = pop(stack);
+    (a, b)
+}
+
 // The number of an act's function. Its operands leave the stack. A match, and no closures: an act is data, read from a text.
 // Not one with `claim`'s: a trait of five acts would carry laws over what a store shows, and a refusal that no truth has.
 fn act_on<S: Store>(
@@ -45,13 +55,11 @@ fn act_on<S: Store>(
             store.not(a)
         }
         Act::And => {
-            let b = pop(stack);
-            let a = pop(stack);
+            let (a, b) = pop_two(stack);
             store.and(a, b)
         }
         Act::Or => {
-            let b = pop(stack);
-            let a = pop(stack);
+            let (a, b) = pop_two(stack);
             store.or(a, b)
         }
     }
@@ -64,7 +72,7 @@ pub(crate) fn make_claim<S: Store>(
     lines: &Lines,
     codes: &[Code],
 ) -> Result<u16, Fault>
-    requires { length codes.now ≤ 512 }
+    requires { length codes.now ≤ LONGEST }
     ensures { MakesClaim (S.Store.shows store.old) part (alone (netlist lines.now.circuit.now)) codes.now lines.now.numbers.items result (S.Store.shows store.new) }
 {
     let mut stack = Stack::new();

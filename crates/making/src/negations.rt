@@ -12,7 +12,7 @@ pub(crate) fn with_negations<S: Store>(
     store: &mut S,
     functions: &[u16],
 ) -> Result<ArrayVec<Polarities, MOST_REGISTERS>, Refusal>
-    requires { length functions.now ≤ 8 }
+    requires { length functions.now ≤ MOST_REGISTERS }
     ensures each { IfOk result (λ ps. length ps.items ≡ length functions.now) }
     ensures negates { Negates (S.Store.shows store.old) functions.now result (S.Store.shows store.new) }
 {

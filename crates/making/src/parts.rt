@@ -1,4 +1,5 @@
 ghost use Rattle.std.specs.Prelude.{◌≡◌, ◌≤◌, length};
+ghost use Rattle.circuit.specs.declared.TheConstants.{MOST_INPUTS};
 
 use arrayvec::ArrayVec;
 use circuit::MOST_REGISTERS;
@@ -20,7 +21,7 @@ pub struct Parts {
     pub assumed: u16,
     pub property: u16,
     pub init: u16,
-    ghost inputs: { m ≤ 8 },
+    ghost inputs: { m ≤ MOST_INPUTS },
     ghost led: { length nexts.items ≡ length copies.items },
 }
 
@@ -28,7 +29,7 @@ impl Parts {
     // How many registers.
     pub fn registers(&self) -> u8
         ensures counts { result ≡ length self.now.copies.items }
-        ensures few { result ≤ 8 }
+        ensures few { result ≤ MOST_REGISTERS }
     {
         self.copies.len() as u8
     }

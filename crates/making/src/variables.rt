@@ -14,7 +14,7 @@ use store::refusal::Refusal;
 
 // The variable of the first input: before it, each register and its copy have one.
 pub(crate) fn first_input(registers: u8) -> u8
-    requires { registers ≤ 8 }
+    requires { registers ≤ MOST_REGISTERS }
     ensures { result ≡ 2 * registers }
 {
     2 * registers

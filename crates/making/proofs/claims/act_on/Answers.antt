@@ -1,4 +1,4 @@
-use Rattle.std.proofs.Common.{[], subst}
+use Rattle.std.proofs.Common.{subst}
 use Rattle.claim.specs.declared.code.Act.{Act}
 use Rattle.circuit.specs.Reading.{netlist}
 use Rattle.making.specs.Models.{alone}
@@ -21,16 +21,14 @@ returns-in-Name-clause-acts g c p l fs gs k n d o =
 pub returns-in-Not-clause-acts : goal.returns-in-Not-clause-acts
 returns-in-Not-clause-acts g c p l fs gs k n d o =
     let m = alone (netlist c.args.lines.now.circuit.now) in
-    on_not m p l _ c.pop-a.new.stack.items [] _ c.pop-a.result d (subst (λ (x : Act). Acts m x fs k gs) c.in-Not.is o) c.pop-a.ensures.top c.not.ensures
+    on_not m p l _ c.pop-a.new.stack.items _ c.pop-a.result d (subst (λ (x : Act). Acts m x fs k gs) c.in-Not.is o) c.pop-a.ensures.top c.not.ensures
 
 pub returns-in-And-clause-acts : goal.returns-in-And-clause-acts
 returns-in-And-clause-acts g c p l fs gs k n d o =
     let m = alone (netlist c.args.lines.now.circuit.now) in
-    on_and m p l _ c.pop-b.new.stack.items c.pop-a-in-And.new.stack.items _ c.pop-a-in-And.result c.pop-b.result c.pop-b.ensures.top c.pop-a-in-And.ensures.top d
-    (subst (λ (x : Act). Acts m x fs k gs) c.in-And.is o) c.and.ensures
+    on_and m p l _ c.pop_two-a.new.stack.items _ c.pop_two-a.result c.pop_two-a.ensures.tops d (subst (λ (x : Act). Acts m x fs k gs) c.in-And.is o) c.and.ensures
 
 pub returns-in-Or-clause-acts : goal.returns-in-Or-clause-acts
 returns-in-Or-clause-acts g c p l fs gs k n d o =
     let m = alone (netlist c.args.lines.now.circuit.now) in
-    on_or m p l _ c.pop-b-in-Or.new.stack.items c.pop-a-in-Or.new.stack.items _ c.pop-a-in-Or.result c.pop-b-in-Or.result c.pop-b-in-Or.ensures.top c.pop-a-in-Or.ensures.top d
-    (subst (λ (x : Act). Acts m x fs k gs) c.in-Or.is o) c.or.ensures
+    on_or m p l _ c.pop_two-a-in-Or.new.stack.items _ c.pop_two-a-in-Or.result c.pop_two-a-in-Or.ensures.tops d (subst (λ (x : Act). Acts m x fs k gs) c.in-Or.is o) c.or.ensures
