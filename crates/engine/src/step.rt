@@ -1,5 +1,6 @@
 // The state and the input of a step.
 ghost use Rattle.std.specs.Prelude.{◌≡◌, ◌*◌, ◌^◌, ◌<◌, ◌≤◌};
+ghost use Rattle.circuit.specs.declared.TheConstants.{MOST_REGISTERS};
 ghost use Rattle.runs.specs.Functions.{spread};
 
 #[derive(Clone, Copy, Default, PartialEq, Eq, Debug)]
@@ -18,7 +19,7 @@ impl Step {
 
     // The valuation of n registers and the inputs.
     pub(crate) fn valuation(self, n: u8) -> u32
-        requires { n ≤ 8 }
+        requires { n ≤ MOST_REGISTERS }
         ensures is { result ≡ spread n self.state self.input }
         ensures below { result < 65536 * 4 ^ n }
     {
