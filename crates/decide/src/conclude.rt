@@ -1,5 +1,6 @@
 // What a settled search has come to.
 ghost use Rattle.std.specs.Prelude.{◌≤◌};
+ghost use Rattle.circuit.specs.declared.TheConstants.{MOST_REGISTERS};
 ghost use Rattle.circuit.specs.Files.{registers};
 ghost use Rattle.engine.specs.Keeping.{world};
 ghost use Rattle.decide.specs.Searches.{CountsInside, HandsOut, Concludes};
@@ -13,10 +14,10 @@ use engine::session::Session;
 use making::fault::Fault;
 use store::Store;
 
-// How many of the states are inside. At most 8 registers are asked for here and in `engine` and `making`: they come of a file, of a circuit or of a list,
+// How many of the states are inside. A bound on the registers is asked for here and in `engine` and `making`: they come of a file, of a circuit or of a list,
 // and a type for them would be made anew in each place.
 fn count_inside<S: Store>(session: &mut Session<S>, registers: u16) -> Result<u16, Fault>
-    requires { registers ≤ 8 }
+    requires { registers ≤ MOST_REGISTERS }
     ensures { CountsInside (world S.Store.shows session.old) registers result }
 {
     let mut count = 0;
@@ -45,7 +46,7 @@ pub(crate) fn conclude<S: Store>(
     file: &[u8],
     settled: Settled,
 ) -> Result<Report, Fault>
-    requires { registers file.now ≤ 8 }
+    requires { registers file.now ≤ MOST_REGISTERS }
     ensures { Concludes (world S.Store.shows session.old) file.now settled result }
 {
     let sizes = sizes_at(file);
