@@ -12,32 +12,33 @@ use table::truths::Truths;
 
 const MOST: usize = 65534;
 
-// Makes products of literals of the last variables until there is no room, and answers the last that was made.
-fn fill<S: Store>(rt: &impl Abort, store: &mut S, heap: Global) -> Result<u16, Fail> {
-    let mut last = 1;
+// The products of a literal of each of the first `count` variables, or those of the last round that there is room for.
+fn products<S: Store>(
+    rt: &impl Abort,
+    store: &mut S,
+    count: u8,
+    heap: Global,
+) -> Result<Vec<u16>, Fail> {
     let mut products = Vec::new(heap);
     products.push(1)?;
-    for i in (0..15u8).rev() {
+    for i in (0..count).rev() {
         let on = store.variable(i)?;
         let off = store.not(on)?;
         let mut longer = Vec::new(heap);
         for literal in [on, off] {
             for product in products.iter() {
                 match store.and(literal, *product) {
-                    Ok(number) => {
-                        longer.push(number)?;
-                        last = number;
-                    }
+                    Ok(number) => longer.push(number)?,
                     Err(refusal) => {
                         assert_eq!(rt; refusal, Refusal::Room(0));
-                        return Ok(last);
+                        return Ok(longer);
                     }
                 }
             }
         }
         products = longer;
     }
-    Ok(last)
+    Ok(products)
 }
 
 // With a link for each record, and with links for half of them.
@@ -54,32 +55,15 @@ fn full_diagram(rt: HostRuntime) -> Result<(), Fail> {
 
 // Whether a store of 15 variables is filled to its last number, which is of a function that is somewhere true.
 fn fills<S: Store + Drop>(rt: &impl Abort, mut store: S, heap: Global) -> Result<(), Fail> {
-    let last = fill(rt, &mut store, heap)?;
-    assert_eq!(rt; last, 65535);
+    let products = products(rt, &mut store, 15, heap)?;
+    assert_eq!(rt; products.last().copied(), Some(65535));
     assert_eq!(rt; store.figures().used, 65534);
     let mut held = false;
     for w in 0..32768 {
-        held |= store.value(last, w)?;
+        held |= store.value(65535, w)?;
     }
     assert!(rt; held);
     Ok(())
-}
-
-// The products of a literal of each of the first 4 variables, 16 in all.
-fn cells<S: Store>(store: &mut S, heap: Global) -> Result<Vec<u16>, Fail> {
-    let mut cells = Vec::new(heap);
-    cells.push(1)?;
-    for i in 0..4 {
-        let on = store.variable(i)?;
-        let off = store.not(on)?;
-        let mut finer = Vec::new(heap);
-        for cell in cells {
-            finer.push(store.and(off, cell)?)?;
-            finer.push(store.and(on, cell)?)?;
-        }
-        cells = finer;
-    }
-    Ok(cells)
 }
 
 // Every function of 4 variables, as a union of cells: with the constants they are all 65,536 numbers.
@@ -88,7 +72,7 @@ fn full_table(rt: HostRuntime) -> Result<(), Fail> {
     let mut records = vec![in rt.alloc(); Truths::default(); MOST]?;
     let mut links = vec![in rt.alloc(); 0; MOST]?;
     let mut store = Table::new(4, &mut records, &mut links);
-    let cells = cells(&mut store, rt.alloc())?;
+    let cells = products(&rt, &mut store, 4, rt.alloc())?;
     let mut unions = Vec::new(rt.alloc());
     unions.push(0)?;
     for cell in cells {

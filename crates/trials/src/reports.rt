@@ -59,54 +59,21 @@ fn searches(rt: HostRuntime) -> Result<(), Fail> {
 #[test]
 fn refusals(rt: HostRuntime) -> Result<(), Fail> {
     let heap = rt.alloc();
-    reports(
-        &rt,
-        heap,
-        &[(2, 2)],
-        "refused 2 part 0 place 22\naccepted 0\n",
-    )?;
-    reports(
-        &rt,
-        heap,
-        &[(4, 0)],
-        "refused 3 part 1 place 0\naccepted 0\n",
-    )?;
-    reports(
-        &rt,
-        heap,
-        &[(4, 9)],
-        "refused 3 part 1 place 0\naccepted 0\n",
-    )?;
-    reports(
-        &rt,
-        heap,
-        &[(10, 6)],
-        "refused 5 part 1 place 0\naccepted 0\n",
-    )?;
-    reports(
-        &rt,
-        heap,
-        &[(12, 4)],
-        "refused 6 part 1 place 1\naccepted 0\n",
-    )?;
-    reports(
-        &rt,
-        heap,
-        &[(18, b'!')],
-        "refused 7 part 2 place 1\naccepted 0\n",
-    )?;
-    reports(
-        &rt,
-        heap,
-        &[(0, 2), (2, 2)],
-        "refused 7 part 2 place 1\naccepted 0\n",
-    )?;
-    reports(
-        &rt,
-        heap,
-        &[(21, b'9')],
-        "refused 8 part 3 place 1\naccepted 0\n",
-    )
+    let table: [(&[(usize, u8)], &str); 8] = [
+        (&[(2, 2)], "2 part 0 place 22"),
+        (&[(4, 0)], "3 part 1 place 0"),
+        (&[(4, 9)], "3 part 1 place 0"),
+        (&[(10, 6)], "5 part 1 place 0"),
+        (&[(12, 4)], "6 part 1 place 1"),
+        (&[(18, b'!')], "7 part 2 place 1"),
+        (&[(0, 2), (2, 2)], "7 part 2 place 1"),
+        (&[(21, b'9')], "8 part 3 place 1"),
+    ];
+    for (changes, refusal) in table {
+        let text = format!(in heap; "refused {refusal}\naccepted 0\n")?;
+        reports(&rt, heap, changes, text.as_str())?;
+    }
+    Ok(())
 }
 
 #[test]

@@ -29,10 +29,9 @@ const SWAP: [u8; 18] = [2, 0, 0, 0, 3, 0, 4, 0, 2, 0, 2, 0, 4, 0, 2, 0, 5, 0];
 // Two registers: the first takes over the input, and the second the first.
 const DELAY: [u8; 18] = [2, 0, 1, 0, 3, 0, 6, 0, 2, 0, 3, 0, 6, 0, 2, 0, 5, 0];
 
-// The circuit `FOLLOW` with these claims.
-fn follow<'a>(assumption: &'a [u8], property: &'a [u8]) -> Source<'a> {
+fn source<'a>(circuit: &'a [u8], assumption: &'a [u8], property: &'a [u8]) -> Source<'a> {
     Source {
-        circuit: &FOLLOW,
+        circuit,
         assumption,
         property,
     }
@@ -127,47 +126,27 @@ fn unsafe_at(depth: u16, steps: [Step; 4]) -> Told {
     }
 }
 
+fn safe_at(advances: u16, inside: u16) -> Told {
+    Told::Safe { advances, inside }
+}
+
 #[test]
 fn stores_agree(rt: HostRuntime) -> Result<(), Fail> {
     agree(
         &rt,
-        follow(b"1", b"!s0"),
+        source(&FOLLOW, b"1", b"!s0"),
         unsafe_at(1, [step(0, 1), step(1, 0), UNWRITTEN, UNWRITTEN]),
     )?;
+    agree(&rt, source(&FOLLOW, b"!v0", b"!s0"), safe_at(1, 1))?;
     agree(
         &rt,
-        follow(b"!v0", b"!s0"),
-        Told::Safe {
-            advances: 1,
-            inside: 1,
-        },
-    )?;
-    agree(
-        &rt,
-        follow(b"1", b"s0"),
+        source(&FOLLOW, b"1", b"s0"),
         unsafe_at(0, [step(0, 0), UNWRITTEN, UNWRITTEN, UNWRITTEN]),
     )?;
-    let source = Source {
-        circuit: &SWAP,
-        assumption: b"1",
-        property: b"!s0 | !s1",
-    };
+    agree(&rt, source(&SWAP, b"1", b"!s0 | !s1"), safe_at(1, 7))?;
     agree(
         &rt,
-        source,
-        Told::Safe {
-            advances: 1,
-            inside: 7,
-        },
-    )?;
-    let source = Source {
-        circuit: &DELAY,
-        assumption: b"1",
-        property: b"!s1",
-    };
-    agree(
-        &rt,
-        source,
+        source(&DELAY, b"1", b"!s1"),
         unsafe_at(2, [step(0, 1), step(1, 0), step(2, 0), UNWRITTEN]),
     )
 }
@@ -180,47 +159,28 @@ fn refusal<S: Store + Drop>(store: S, source: Source) -> Option<Notice> {
 // Each function that is new takes one of the table's records, so that each of them is refused in its turn.
 #[test]
 fn room_in_every_part(rt: HostRuntime) -> Result<(), Fail> {
-    let source = Source {
-        circuit: &DELAY,
-        assumption: b"s0 | v0",
-        property: b"!(s1 & v0)",
-    };
-    let places = [
-        (Part::Circuit, 0),
-        (Part::Circuit, 0),
-        (Part::Circuit, 0),
-        (Part::Circuit, 0),
-        (Part::Circuit, 0),
-        (Part::Circuit, 2),
-        (Part::Circuit, 2),
-        (Part::Circuit, 2),
-        (Part::Assumption, 3),
-        (Part::Property, 5),
-        (Part::Property, 0),
-        (Part::Sets, 0),
-        (Part::Sets, 0),
-        (Part::Sets, 0),
-        (Part::Sets, 0),
-        (Part::Sets, 0),
-        (Part::Sets, 0),
-        (Part::Sets, 0),
-        (Part::Sets, 0),
-        (Part::Sets, 1),
-        (Part::Sets, 1),
-        (Part::Sets, 1),
-        (Part::Sets, 1),
-        (Part::Sets, 1),
+    let source = source(&DELAY, b"s0 | v0", b"!(s1 & v0)");
+    let table = [
+        (0..5, Part::Circuit, 0),
+        (5..8, Part::Circuit, 2),
+        (8..9, Part::Assumption, 3),
+        (9..10, Part::Property, 5),
+        (10..11, Part::Property, 0),
+        (11..19, Part::Sets, 0),
+        (19..24, Part::Sets, 1),
     ];
-    for (records, &(part, place)) in places.iter().enumerate() {
-        let mut tables = vec![in rt.alloc(); Truths::default(); records]?;
-        assert_eq!(rt;
-            refusal(Table::new(10, &mut tables, &mut []), source),
-            Some(Notice {
-                number: 10,
-                part,
-                place,
-            })
-        );
+    for (counts, part, place) in table {
+        for records in counts {
+            let mut tables = vec![in rt.alloc(); Truths::default(); records]?;
+            assert_eq!(rt;
+                refusal(Table::new(10, &mut tables, &mut []), source),
+                Some(Notice {
+                    number: 10,
+                    part,
+                    place,
+                })
+            );
+        }
     }
     let mut tables = [Truths::default(); 24];
     assert_eq!(rt; refusal(Table::new(10, &mut tables, &mut []), source), None);
@@ -236,8 +196,11 @@ fn calls<S: Store + Drop>(rt: &impl Abort, store: S) {
     assert_eq!(rt; session.advance(), Err(Fault::Empty));
     assert_eq!(rt; session.trace(&mut states, &mut inputs), Err(Fault::Empty));
     assert_eq!(rt; session.inside(0), Err(Fault::Empty));
-    assert_eq!(rt; session.load(follow(b"1", b"!s0")), Ok(Verdict::Open));
-    assert_eq!(rt; session.load(follow(b"", b"")), Err(Fault::Loaded));
+    assert_eq!(rt;
+        session.load(source(&FOLLOW, b"1", b"!s0")),
+        Ok(Verdict::Open)
+    );
+    assert_eq!(rt; session.load(source(&FOLLOW, b"", b"")), Err(Fault::Loaded));
     assert_eq!(rt;
         session.trace(&mut states, &mut inputs),
         Err(Fault::Verdict)
@@ -255,7 +218,10 @@ fn calls<S: Store + Drop>(rt: &impl Abort, store: S) {
 
 fn safe_calls<S: Store + Drop>(rt: &impl Abort, store: S) {
     let mut session = Session::new(store);
-    assert_eq!(rt; session.load(follow(b"!v0", b"!s0")), Ok(Verdict::Open));
+    assert_eq!(rt;
+        session.load(source(&FOLLOW, b"!v0", b"!s0")),
+        Ok(Verdict::Open)
+    );
     assert_eq!(rt; session.advance(), Ok(Verdict::Safe));
     assert_eq!(rt; session.inside(0), Ok(true));
     assert_eq!(rt; session.inside(1), Ok(false));

@@ -9,6 +9,7 @@ use std::test::Fail;
 use store::Store;
 use store::figures::Figures;
 use store::refusal::{Refusal, Unfit};
+use store::task::{Op, Task};
 use table::truths::Truths;
 use table::{Table, check as check_table};
 
@@ -39,13 +40,20 @@ fn make<S: Store>(store: &mut S, seed: u32, made: &[u16]) -> Result<u16, Refusal
     let a = made[seed as usize / 16 % count];
     let b = made[seed as usize / 4096 % count];
     let i = (seed / 1048576 % 4) as u8;
-    match seed / 65536 % 8 {
-        0 => store.variable(i),
-        1 => store.not(a),
-        2 | 3 | 4 => store.and(a, b),
-        5 | 6 => store.or(a, b),
-        _ => store.cofactor(a, i, seed % 2 == 1),
-    }
+    let and = Task::Both(Op::And, a, b);
+    let or = Task::Both(Op::Or, a, b);
+    let cofactor = Task::Cofactor(a, i, seed % 2 == 1);
+    let tasks = [
+        Task::Variable(i),
+        Task::Not(a),
+        and,
+        and,
+        and,
+        or,
+        or,
+        cofactor,
+    ];
+    store.answer(tasks[seed as usize / 65536 % tasks.len()])
 }
 
 // The truths of all that is made, step after step.
