@@ -9,8 +9,6 @@ use Rattle.std.proofs.lemmas.Option.{slice_get-get_or, slice_get_within}
 use Rattle.std.proofs.lemmas.Bool.{lt-ltb, ltb-true, not-true, both_ways}
 use Rattle.std.proofs.lemmas.Bool.Decides.{Decides-not}
 use Rattle.records.specs.declared.Full.{Full}
-use Rattle.std.specs.declared.cmp.PartialEq as eq
-use Rattle.records.specs.declared.entry.Entry as entry
 use Rattle.records.specs.declared.list.List.{List as Records}
 use Rattle.records.specs.Contents.{entries, room}
 use Rattle.records.specs.Placing.{Places, Answers as LookedUp}

@@ -5,6 +5,7 @@ ghost use Rattle.std.specs.Prelude.{◌≡◌, ◌≤◌, true, [], length, if�
 ghost use Rattle.records.specs.Contents.{entries, room};
 ghost use Rattle.store.specs.Fitting.{fitting};
 ghost use Rattle.store.specs.Meaning.{Fresh, Lawful};
+ghost use Rattle.table.specs.declared.TheConstants.{MOST};
 ghost use Rattle.table.specs.Shows.{shown, showing, sound, suits};
 
 mod making;
@@ -24,7 +25,7 @@ pub struct Table<'a> {
     n: u8,
     list: List<'a, Truths>,
     ghost some: { 1 ≤ n },
-    ghost few: { n ≤ 10 },
+    ghost few: { n ≤ MOST },
     ghost small: { room list ≤ 65534 },
     ghost apart: { sound n (entries list) ≡ true },
 }

@@ -1,6 +1,7 @@
 // One function of at most 10 variables.
 ghost use Rattle.std.specs.Prelude.{◌≡◌, ◌*◌, ◌^◌, ◌<◌, ◌≤◌};
 ghost use Rattle.store.specs.Fun.{Fn};
+ghost use Rattle.table.specs.declared.TheConstants.{MOST};
 ghost use Rattle.table.specs.Tables.{truth, packed, packed_truths, table, Constant, Computes};
 ghost use Rattle.table.specs.Hash.{mixed};
 ghost use Rattle.table.specs.Identity.{truths_exact};
@@ -31,7 +32,7 @@ impl Entry for Truths {
 impl Truths {
     // The table of f, of n variables.
     pub(super) fn of<F: Fn(u32) -> bool>(n: u8, f: F) -> Truths
-        requires few { n ≤ 10 }
+        requires few { n ≤ MOST }
         requires callable { F.IsAlwaysCallable f }
         ensures { (g : Fn) → Computes (2 ^ n) (F.post f) g → result ≡ table n g }
     {
@@ -39,10 +40,10 @@ impl Truths {
         Truths::packed(|w| w < size && f(w))
     }
 
-    // The values of f below 1024.
+    // The values of f as a function of the most variables.
     fn packed<F: Fn(u32) -> bool>(f: F) -> Truths
         requires callable { F.IsAlwaysCallable f }
-        ensures { (g : Fn) → Computes 1024 (F.post f) g → result ≡ packed_truths g }
+        ensures { (g : Fn) → Computes (2 ^ MOST) (F.post f) g → result ≡ packed_truths g }
     {
         Truths {
             bytes: array::from_fn(|j| byte(&f, j)),
@@ -59,7 +60,7 @@ impl Truths {
 
     // The constant that it is as a function of n variables, if it is one.
     pub(super) fn constant(&self, n: u8) -> Option<bool>
-        requires { n ≤ 10 }
+        requires { n ≤ MOST }
         ensures { Constant n (truth self.now) result }
     {
         let first = self.at(0);
@@ -71,7 +72,7 @@ impl Truths {
 fn byte<F: Fn(u32) -> bool>(f: &F, j: usize) -> u8
     requires below { j < 128 }
     requires callable { F.IsAlwaysCallable f.now }
-    ensures { (g : Fn) → Computes 1024 (F.post f.now) g → result ≡ packed 8 (8 * j) g }
+    ensures { (g : Fn) → Computes (2 ^ MOST) (F.post f.now) g → result ≡ packed 8 (8 * j) g }
 {
     let mut byte = 0;
     // A `for`: of a fold, `fold-requires-clause-callable` stayed open, that its closure may be called at each turn.
