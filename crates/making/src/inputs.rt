@@ -14,7 +14,7 @@ fn halves<S: Store>(store: &mut S, a: u16, x: u8) -> Result<u16, Refusal>
     store.or(low, high)
 }
 
-// Whether a is true under some values of the m variables from first on.
+// Whether a is true under some values of the m variables from first on. The bound is the range of a u8: `u8.MAX` would be no plainer.
 pub(crate) fn quantify<S: Store>(store: &mut S, a: u16, first: u8, m: u8) -> Result<u16, Refusal>
     requires { first + m < 256 }
     ensures { Quantifies (S.Store.shows store.old) a first m result (S.Store.shows store.new) }

@@ -30,7 +30,7 @@ pub(crate) fn compose<S: Store>(
     store.or(over, under)
 }
 
-// The function a with by[i] put for variable first + 2i, for each i.
+// The function a with by[i] put for variable first + 2i, for each i. The bound is the range of a u8: `u8.MAX` would be no plainer.
 pub(crate) fn compose_all<S: Store>(
     store: &mut S,
     a: u16,
