@@ -1,16 +1,17 @@
 -- Lines that are worked out gate after gate.
-use Rattle.std.proofs.Common.{◌≡◌, ℕ, zero, suc, ◌+◌, ◌/◌, ◌%◌, ◌<◌, Bool, false, cond, not, ◌&&◌, ◌||◌, eqb, List, [], ◌∷◌, ◌++◌, length, get_or, sym, refl, ap, ◌∙◌, ap₂, arith}
+use Rattle.std.proofs.Common.{◌≡◌, ℕ, zero, suc, ◌+◌, ◌<◌, Bool, false, cond, not, ◌&&◌, ◌||◌, List, [], ◌∷◌, ◌++◌, length, get_or, sym, refl, ap, ◌∙◌, ap₂, arith}
 use Rattle.std.proofs.lemmas.List.{get_or_append_left, get_or_push, length_push}
 use Rattle.circuit.specs.declared.gate.Gate.{Gate}
+use Rattle.circuit.specs.declared.literal.Literal.{Literal}
 use Rattle.circuit.specs.Netlists.{blank}
 use Rattle.circuit.specs.Lines.{literal, conjunction, either, extended}
 
 -- a rule goes by the two lines that its gate names
 abbrev pub Local : ((ℕ → Bool) → Gate → Bool) → Type 0
-Local rule = (f h : ℕ → Bool) (g : Gate) → f (g.left / 2) ≡ h (g.left / 2) → f (g.right / 2) ≡ h (g.right / 2) → rule f g ≡ rule h g
+Local rule = (f h : ℕ → Bool) (g : Gate) → f g.left.line ≡ h g.left.line → f g.right.line ≡ h g.right.line → rule f g ≡ rule h g
 
-literal_local : (f h : ℕ → Bool) (x : ℕ) → f (x / 2) ≡ h (x / 2) → literal f x ≡ literal h x
-literal_local f h x e = ap (λ t. cond (eqb (x % 2) 1) (not t) t) e
+literal_local : (f h : ℕ → Bool) (x : Literal) → f x.line ≡ h x.line → literal f x ≡ literal h x
+literal_local f h x e = ap (λ t. cond x.negated (not t) t) e
 
 pub conjunction_local : Local conjunction
 conjunction_local f h g p q = ap₂ ◌&&◌ (literal_local f h g.left p) (literal_local f h g.right q)
@@ -32,7 +33,7 @@ module _ (rule : (ℕ → Bool) → Gate → Bool) where
 
   -- each gate is by the rule, on what is worked out in the end
   pub ruled : Local rule → (gs : List Gate) (before : List Bool) (g : ℕ) → g < length gs
-      → (get_or gs g blank).left / 2 < length before + g → (get_or gs g blank).right / 2 < length before + g
+      → (get_or gs g blank).left.line < length before + g → (get_or gs g blank).right.line < length before + g
       → get_or (extended rule gs before) (length before + g) false ≡ rule (λ x. get_or (extended rule gs before) x false) (get_or gs g blank)
   unfolding extended added
   ruled loc [] before g h p q = absurd (omega arith)
@@ -43,8 +44,8 @@ module _ (rule : (ℕ → Bool) → Gate → Bool) where
       ∙ kept gs (added before a) (length before) (omega arith)
       ∙ get_or_push before _ false (length before) refl
       ∙ loc (λ x. get_or before x false) (λ x. get_or (extended rule gs (added before a)) x false) a
-      (sym (kept (a ∷ gs) before (a.left / 2) (omega arith)))
-      (sym (kept (a ∷ gs) before (a.right / 2) (omega arith)))
+      (sym (kept (a ∷ gs) before a.left.line (omega arith)))
+      (sym (kept (a ∷ gs) before a.right.line (omega arith)))
   ruled loc (a ∷ gs) before (suc g) h p q =
       let n = length_push before (rule (λ x. get_or before x false) a) in
       let z : length before + suc g ≡ length (added before a) + g = omega arith in

@@ -1,5 +1,5 @@
 -- Each line has one value, and the test whether a line touches an input tells it.
-use Rattle.std.proofs.Common.{◌≡◌, ℕ, zero, suc, ◌+◌, ◌-◌, ◌/◌, ◌<◌, ◌≤◌, Bool, true, false, ◌⊎◌, List, ◌∷◌, ◌++◌, map, length, get_or, replicate, ltb, Decides, sym, refl, ap, ◌∙◌, subst, inl, inr, ⊎_elim, arith}
+use Rattle.std.proofs.Common.{◌≡◌, ℕ, zero, suc, ◌+◌, ◌-◌, ◌<◌, ◌≤◌, Bool, true, false, ◌⊎◌, List, ◌∷◌, ◌++◌, map, length, get_or, replicate, ltb, Decides, sym, refl, ap, ◌∙◌, subst, inl, inr, ⊎_elim, arith}
 use native.Mathlib.Decide.{dec_lt}
 use Rattle.std.specs.List.{range_with_len}
 use Rattle.std.proofs.lemmas.List.FromFn.{get_or-map-range_with_len, length-map-range_with_len}
@@ -112,10 +112,10 @@ module _ (c : Netlist) (w : (g : ℕ) → g < length c.gates → Wired c g) wher
     agreed (suc n) le x l t = agree x (kind x (omega arith)) t (λ y k u. agreed n (omega arith) y (omega arith) u)
 
   -- a gate touches an input through its left or its right literal
-  through : (x : ℕ) → Touches c x → (g : ℕ) → x ≡ gate_line c g → Touches c ((gate c g).left / 2) ⊎ Touches c ((gate c g).right / 2)
+  through : (x : ℕ) → Touches c x → (g : ℕ) → x ≡ gate_line c g → Touches c (gate c g).left.line ⊎ Touches c (gate c g).right.line
   through x (input j l) g e = absurd (omega arith)
-  through x (left k l t) g e = let s : k ≡ g = omega arith in inl (subst (λ i. Touches c ((gate c i).left / 2)) s t)
-  through x (right k l t) g e = let s : k ≡ g = omega arith in inr (subst (λ i. Touches c ((gate c i).right / 2)) s t)
+  through x (left k l t) g e = let s : k ≡ g = omega arith in inl (subst (λ i. Touches c (gate c i).left.line) s t)
+  through x (right k l t) g e = let s : k ≡ g = omega arith in inr (subst (λ i. Touches c (gate c i).right.line) s t)
 
   -- no line before the inputs touches one
   untouched : (x : ℕ) → Touches c x → x ≤ c.registers → ⊥

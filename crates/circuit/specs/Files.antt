@@ -1,7 +1,8 @@
 -- What the bytes of a circuit file say.
-use Rattle.std.specs.Prelude.{ℕ, ◌+◌, ◌*◌, List, map, slice_index}
+use Rattle.std.specs.Prelude.{ℕ, ◌+◌, ◌*◌, ◌/◌, ◌%◌, ◌==◌, List, map, slice_index}
 use Rattle.std.specs.List.{range_with_len}
 use Rattle.circuit.specs.declared.gate.Gate.{Gate}
+use Rattle.circuit.specs.declared.literal.Literal.{Literal}
 use Rattle.circuit.specs.declared.sizes.Sizes.{Sizes}
 use Rattle.circuit.specs.Netlists.{Netlist}
 
@@ -22,9 +23,13 @@ count bs = number_at bs 2
 abbrev pub sizes_at : List ℕ → Sizes
 sizes_at bs = record { registers = registers bs; inputs = inputs bs; gates = count bs }
 
+-- number 2x is line x, and 2x + 1 is its negation
+abbrev pub literal_of : ℕ → Literal
+literal_of x = record { line = x / 2; negated = x % 2 == 1 }
+
 -- all left literals come before all right literals
 abbrev pub gate_at : List ℕ → ℕ → ℕ → Gate
-gate_at bs k g = record { left = number_at bs (3 + g); right = number_at bs (3 + k + g) }
+gate_at bs k g = record { left = literal_of (number_at bs (3 + g)); right = literal_of (number_at bs (3 + k + g)) }
 
 abbrev pub says : List ℕ → Netlist
 says bs = record { registers = registers bs; inputs = inputs bs; gates = map (gate_at bs (count bs)) (range_with_len 0 (count bs)) }

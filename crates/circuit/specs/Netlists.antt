@@ -1,5 +1,5 @@
 -- A netlist: registers, inputs and gates, and which line is which.
-use Rattle.std.specs.Prelude.{ℕ, ◌+◌, ◌-◌, List, length, slice_index_or}
+use Rattle.std.specs.Prelude.{ℕ, ◌+◌, ◌-◌, false, List, length, slice_index_or}
 use Rattle.circuit.specs.declared.gate.Gate.{Gate}
 use Rattle.circuit.specs.declared.sizes.Sizes.{Sizes}
 
@@ -12,7 +12,7 @@ abbrev pub sizes : Netlist → Sizes
 sizes c = record { registers = c.registers; inputs = c.inputs; gates = length c.gates }
 
 abbrev pub blank : Gate
-blank = record { left = 0; right = 0 }
+blank = record { left = record { line = 0; negated = false }; right = record { line = 0; negated = false } }
 
 abbrev pub gate : Netlist → ℕ → Gate
 gate c g = slice_index_or c.gates g blank

@@ -1,5 +1,5 @@
 -- Which netlists are circuits, and which refusal any other file gets.
-use Rattle.std.specs.Prelude.{◌≡◌, ℕ, zero, suc, ◌+◌, ◌-◌, ◌*◌, ◌/◌, ◌<◌, ◌≤◌, Bool, cond, not, ◌&&◌, ◌||◌, List, length, Ok, Err, Decides, Result, ◌==◌, nat_lt}
+use Rattle.std.specs.Prelude.{◌≡◌, ℕ, zero, suc, ◌+◌, ◌-◌, ◌*◌, ◌<◌, ◌≤◌, Bool, cond, not, ◌&&◌, ◌||◌, List, length, Ok, Err, Decides, Result, ◌==◌, nat_lt}
 use Rattle.circuit.specs.declared.refusal.Refusal.{Refusal}
 use Rattle.circuit.specs.declared.refusal.Refusal.TheVariants.{Length, Size, Width, Wire, Start}
 use Rattle.circuit.specs.declared.sort.Sort.TheVariants as sort
@@ -9,7 +9,7 @@ use Rattle.circuit.specs.Files.{registers, inputs, count, says}
 
 -- the literals of gate g name lines before its own
 abbrev pub Wired : Netlist → ℕ → Type 0
-Wired c g = ((gate c g).left / 2 < gate_line c g) × ((gate c g).right / 2 < gate_line c g)
+Wired c g = ((gate c g).left.line < gate_line c g) × ((gate c g).right.line < gate_line c g)
 
 -- what a circuit is
 pub record Sound (c : Netlist) : Type 0 where
@@ -33,7 +33,7 @@ least zero p = 0
 least (suc n) p = cond (p 0) 0 (suc (least n (λ i. p (suc i))))
 
 abbrev pub miswired : Netlist → ℕ → Bool
-miswired c g = not (nat_lt ((gate c g).left / 2) (gate_line c g) && nat_lt ((gate c g).right / 2) (gate_line c g))
+miswired c g = not (nat_lt (gate c g).left.line (gate_line c g) && nat_lt (gate c g).right.line (gate_line c g))
 
 -- the first gate that is miswired, or the count of gates
 abbrev pub first_miswired : Netlist → ℕ

@@ -1,27 +1,29 @@
-ghost use Rattle.std.specs.Prelude.{◌≡◌, ◌/◌, ◌&&◌, false, nat_lt, slice_index_or};
+ghost use Rattle.std.specs.Prelude.{◌≡◌, ◌&&◌, false, nat_lt, slice_index_or};
 ghost use Rattle.circuit.specs.Lines.{either};
 
-// The and of two literals, as the file has them: literal 2x is line x, and 2x + 1 is its negation.
+use super::literal::Literal;
+
+// The and of two literals.
 #[derive(Clone, Copy, Default, PartialEq, Eq, Debug)]
 pub struct Gate {
-    pub left: u16,
-    pub right: u16,
+    pub left: Literal,
+    pub right: Literal,
 }
 
 impl Gate {
     // Whether both literals name lines below `line`.
     pub(crate) fn names_below(self, line: usize) -> bool
-        ensures { result ≡ (nat_lt (self.left / 2) line && nat_lt (self.right / 2) line) }
+        ensures { result ≡ (nat_lt self.left.line line && nat_lt self.right.line line) }
     {
-        usize::from(self.left / 2) < line && usize::from(self.right / 2) < line
+        usize::from(self.left.line) < line && usize::from(self.right.line) < line
     }
 
     // Whether one of the literals names a line that is marked.
     pub(crate) fn names_marked(self, marks: &[bool]) -> bool
         ensures { result ≡ either (λ x. slice_index_or marks.now x false) self }
     {
-        let marked = |literal: u16| {
-            let line = usize::from(literal / 2);
+        let marked = |literal: Literal| {
+            let line = usize::from(literal.line);
             marks.get(line).copied().unwrap_or(false)
         };
         marked(self.left) || marked(self.right)

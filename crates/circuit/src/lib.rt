@@ -10,6 +10,7 @@ ghost use Rattle.circuit.specs.Steps.{Sized};
 
 pub mod circuit;
 pub mod gate;
+pub mod literal;
 mod netlist;
 pub mod refusal;
 pub mod sizes;

@@ -10,6 +10,7 @@ ghost use Rattle.circuit.specs.Steps.{InRange, Sized};
 
 use super::circuit::Circuit;
 use super::gate::Gate;
+use super::literal::Literal;
 use super::refusal::Refusal;
 use super::sizes::Sizes;
 use super::{MOST_GATES, MOST_LINES, number_at};
@@ -40,8 +41,8 @@ impl Netlist {
     {
         let count = sizes.gates;
         let read = (0..count).map(|g| Gate {
-            left: number_at(file, 3 + g),
-            right: number_at(file, 3 + count + g),
+            left: Literal::read(number_at(file, 3 + g)),
+            right: Literal::read(number_at(file, 3 + count + g)),
         });
         let mut gates = ArrayVec::new();
         gates.extend(read).unwrap();

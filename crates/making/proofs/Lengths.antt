@@ -1,7 +1,8 @@
 -- How many calls the lists have.
-use Rattle.std.proofs.Common.{◌≡◌, ℕ, zero, suc, ◌+◌, ◌*◌, ◌/◌, ◌%◌, ◌≤◌, Bool, true, false, cond, eqb, List, [], ◌∷◌, ◌++◌, length, refl, suc-mul, arith, length-append}
+use Rattle.std.proofs.Common.{◌≡◌, ℕ, zero, suc, ◌+◌, ◌*◌, ◌≤◌, Bool, true, false, cond, List, [], ◌∷◌, ◌++◌, length, refl, suc-mul, arith, length-append}
 use Rattle.store.specs.Fun.{Fn, bit, same}
 use Rattle.circuit.specs.declared.gate.Gate.{Gate}
+use Rattle.circuit.specs.declared.literal.Literal.{Literal}
 use Rattle.circuit.specs.Netlists.{gate}
 use Rattle.claim.specs.declared.code.Code.{Code}
 use Rattle.claim.specs.Grammar.{Tree, const, named, neg, conj, disj, post, code, operators}
@@ -26,10 +27,10 @@ upto_length : (c : ℕ) (F : ℕ → List Item) → ((i : ℕ) → length (F i) 
 upto_length c F h zero = omega arith
 upto_length c F h (suc n) = omega (arith, length-append (upto n F) (F n), suc-mul n c, h n, upto_length c F h n)
 
-literal_length : (f : ℕ → Fn) (x : ℕ) → length (literal_list f x) ≤ 1
-literal_length f x = by (eqb (x % 2) 1)
+literal_length : (f : ℕ → Fn) (x : Literal) → length (literal_list f x) ≤ 1
+literal_length f x = by x.negated
   where
-    by : (b : Bool) → length {A = Fn} (cond b (negated (f (x / 2)) ∷ []) []) ≤ 1
+    by : (b : Bool) → length {A = Fn} (cond b (negated (f x.line) ∷ []) []) ≤ 1
     by true = omega arith
     by false = omega arith
 

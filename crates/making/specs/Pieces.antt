@@ -1,7 +1,8 @@
 -- The making calls of one substitution, of the inputs, of a gate and of a claim.
-use Rattle.std.specs.Prelude.{ℕ, ◌+◌, ◌/◌, ◌%◌, true, false, cond, List, [], ◌∷◌, ◌++◌, ◌==◌}
+use Rattle.std.specs.Prelude.{ℕ, ◌+◌, true, false, cond, List, [], ◌∷◌, ◌++◌}
 use Rattle.store.specs.Fun.{Fn, bit, fix}
 use Rattle.circuit.specs.declared.gate.Gate.{Gate}
+use Rattle.circuit.specs.declared.literal.Literal.{Literal}
 use Rattle.circuit.specs.Netlists.{gate}
 use Rattle.claim.specs.Grammar.{Tree, const, named, neg, conj, disj}
 use Rattle.description.specs.declared.part.Part.{Part}
@@ -35,8 +36,8 @@ abbrev pub variables_list : ℕ → List Item
 variables_list n = upto n (λ i. at Circuit 0 (bit i ∷ []))
 
 -- a literal over the lines f
-abbrev pub literal_list : (ℕ → Fn) → ℕ → List Fn
-literal_list f x = cond (x % 2 == 1) (negated (f (x / 2)) ∷ []) []
+abbrev pub literal_list : (ℕ → Fn) → Literal → List Fn
+literal_list f x = cond x.negated (negated (f x.line) ∷ []) []
 
 -- not of a negated left, not of a negated right, and
 abbrev pub gate_list : (ℕ → Fn) → Gate → List Fn

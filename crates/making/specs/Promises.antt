@@ -1,10 +1,11 @@
 -- What the parts of the builder promise one another: s is what the store shows before, and t after.
-use Rattle.std.specs.Prelude.{◌≡◌, ℕ, ◌+◌, ◌*◌, ◌/◌, ◌<◌, ◌≤◌, true, false, List, [], ◌∷◌, ◌++◌, length, Result, slice_index}
+use Rattle.std.specs.Prelude.{◌≡◌, ℕ, ◌+◌, ◌*◌, ◌<◌, ◌≤◌, true, false, List, [], ◌∷◌, ◌++◌, length, Result, slice_index}
 use Rattle.arrayvec.specs.ArrayVec.{ArrayVec}
 use Rattle.store.specs.declared.refusal.Refusal.{Refusal}
 use Rattle.store.specs.Fun.{Fn, bit, fix}
 use Rattle.store.specs.Meaning.{Shown, Lawful}
 use Rattle.circuit.specs.declared.gate.Gate.{Gate}
+use Rattle.circuit.specs.declared.literal.Literal.{Literal}
 use Rattle.circuit.specs.Netlists.{Netlist, lines, gate_line}
 use Rattle.claim.specs.declared.code.Act.{Act}
 use Rattle.claim.specs.declared.code.Code.{Code}
@@ -52,12 +53,12 @@ abbrev pub Negates : Shown → List ℕ → Result (ArrayVec Polarities) Refusal
 Negates s bs r t = (p : Part) (l : ℕ) (f : ℕ → Fn) → Lawful s → Numbered s bs f (length bs)
     → Ends plain s t (negations_list p l f (length bs)) (λ ps. Lawful t × Paired t ps.items f (length bs)) r
 
-abbrev pub Literally : Shown → List ℕ → ℕ → Result ℕ Refusal → Shown → Type 0
-Literally s numbers x r t = (p : Part) (l : ℕ) (f : ℕ → Fn) → Means s (slice_index numbers (x / 2)) (f (x / 2))
+abbrev pub Literally : Shown → List ℕ → Literal → Result ℕ Refusal → Shown → Type 0
+Literally s numbers x r t = (p : Part) (l : ℕ) (f : ℕ → Fn) → Means s (slice_index numbers x.line) (f x.line)
     → Gives plain s t (at p l (literal_list f x)) (literal_fn f x) r
 
 abbrev pub GatesOne : Shown → List ℕ → Gate → Result ℕ Refusal → Shown → Type 0
-GatesOne s numbers g r t = (p : Part) (l : ℕ) (f : ℕ → Fn) → Means s (slice_index numbers (g.left / 2)) (f (g.left / 2)) → Means s (slice_index numbers (g.right / 2)) (f (g.right / 2))
+GatesOne s numbers g r t = (p : Part) (l : ℕ) (f : ℕ → Fn) → Means s (slice_index numbers g.left.line) (f g.left.line) → Means s (slice_index numbers g.right.line) (f g.right.line)
     → Ends plain s t (at p l (gate_list f g)) (λ a. Lawful t × Means t a (both (literal_fn f g.left) (literal_fn f g.right))) r
 
 -- line 0 is there; then the registers, the inputs and the copies are, too

@@ -11,16 +11,17 @@ use crate::lines::Numbers;
 use crate::places::place_at;
 use circuit::circuit::Circuit;
 use circuit::gate::Gate;
+use circuit::literal::Literal;
 use description::part::Part;
 use store::Store;
 use store::refusal::Refusal;
 
-// The literal x over the lines' numbers.
-fn literal<S: Store>(store: &mut S, numbers: &[u16], x: u16) -> Result<u16, Refusal>
+// A literal over the lines' numbers.
+fn literal<S: Store>(store: &mut S, numbers: &[u16], x: Literal) -> Result<u16, Refusal>
     ensures { Literally (S.Store.shows store.old) numbers.now x result (S.Store.shows store.new) }
 {
-    let a = numbers.get(usize::from(x / 2)).copied().unwrap_or(FALSE);
-    if x % 2 == 1 { store.not(a) } else { Ok(a) }
+    let a = numbers.get(usize::from(x.line)).copied().unwrap_or(FALSE);
+    if x.negated { store.not(a) } else { Ok(a) }
 }
 
 fn conjunction<S: Store>(store: &mut S, numbers: &[u16], gate: Gate) -> Result<u16, Refusal>

@@ -1,8 +1,9 @@
 -- The system of a model, and its functions.
-use Rattle.std.proofs.Common.{◌≡◌, ℕ, ◌+◌, ◌*◌, ◌/◌, ◌%◌, ◌^◌, ◌<◌, Bool, true, false, cond, not, ◌&&◌, ◌||◌, eqb, ◌∷◌, ◌++◌, map, get_or, sym, refl, ap, ◌∙◌, ap₂, arith, pow_mono}
+use Rattle.std.proofs.Common.{◌≡◌, ℕ, ◌+◌, ◌*◌, ◌^◌, ◌<◌, Bool, true, false, cond, not, ◌&&◌, ◌||◌, ◌∷◌, ◌++◌, map, get_or, sym, refl, ap, ◌∙◌, ap₂, arith, pow_mono}
 use Rattle.std.specs.List.{range_with_len}
 use Rattle.std.proofs.lemmas.List.FromFn.{fill_by_all, get_or-map-range_with_len, length-map-range_with_len}
 use Rattle.store.specs.Fun.{Fn, bit}
+use Rattle.circuit.specs.declared.literal.Literal.{Literal}
 use Rattle.circuit.specs.Netlists.{Netlist, gate, gate_line, lines, next_line, init_line}
 use Rattle.circuit.specs.Lines.{literal, conjunction, Values, line, extended}
 use Rattle.circuit.specs.Rules.{Determined}
@@ -89,8 +90,8 @@ module _ (m : Model) (ok : Valid m) where
   cond_at true f g w = refl
   cond_at false f g w = refl
 
-  literal_at : (x w : ℕ) → literal_fn (line_fn m) x w ≡ literal (λ y. line_fn m y w) x
-  literal_at x w = cond_at (eqb (x % 2) 1) (negated (line_fn m (x / 2))) (line_fn m (x / 2)) w
+  literal_at : (x : Literal) (w : ℕ) → literal_fn (line_fn m) x w ≡ literal (λ y. line_fn m y w) x
+  literal_at x w = cond_at x.negated (negated (line_fn m x.line)) (line_fn m x.line) w
 
   names_at : (p : ℕ) (s : Sort) (i : ℕ) → i < limit (sizes m.circuit) s → (w : ℕ) → claim_fn m (named p s i) w ≡ line_fn m (name_line m.circuit s i) w
   names_at p Register i l w = sym ((lines_at w).register i l)

@@ -1,6 +1,7 @@
 -- The functions of a model over the valuations of a store: its lines, its claims and its sets.
-use Rattle.std.specs.Prelude.{◌≡◌, ℕ, suc, ◌+◌, ◌*◌, ◌/◌, ◌%◌, ◌^◌, ◌<◌, ◌≤◌, Bool, false, cond, not, length, Decides, ◌==◌}
+use Rattle.std.specs.Prelude.{◌≡◌, ℕ, suc, ◌+◌, ◌*◌, ◌^◌, ◌<◌, ◌≤◌, Bool, false, cond, not, length, Decides}
 use Rattle.store.specs.Fun.{Fn, bit, Same, same}
+use Rattle.circuit.specs.declared.literal.Literal.{Literal}
 use Rattle.circuit.specs.Netlists.{Netlist, gate, register_line, input_line, gate_line, next_line, init_line}
 use Rattle.circuit.specs.Lines.{line}
 use Rattle.circuit.specs.declared.sort.Sort.{Sort}
@@ -20,9 +21,9 @@ registers_at w i = bit (register i) w
 abbrev pub inputs_at : ℕ → ℕ → ℕ → Bool
 inputs_at n w j = bit (input n j) w
 
--- literal x of lines that are these functions
-abbrev pub literal_fn : (ℕ → Fn) → ℕ → Fn
-literal_fn lines x = cond (x % 2 == 1) (negated (lines (x / 2))) (lines (x / 2))
+-- a literal of lines that are these functions
+abbrev pub literal_fn : (ℕ → Fn) → Literal → Fn
+literal_fn lines x = cond x.negated (negated (lines x.line)) (lines x.line)
 
 -- the line of a name
 abbrev pub name_line : Netlist → Sort → ℕ → ℕ
