@@ -1,5 +1,5 @@
 -- What the ghost fields of a diagram say.
-use Rattle.std.proofs.Common.{◌≡◌, ℕ, zero, suc, ◌≤◌, length, Some, sym, subst}
+use Rattle.std.proofs.Common.{◌≡◌, ℕ, zero, suc, ◌≤◌, length, Some, sym, subst, arith}
 use Rattle.std.proofs.lemmas.Option.{get_or_from_slice_get, slice_get_within}
 use Rattle.records.proofs.Contents.{entries_fit}
 use Rattle.store.specs.Meaning.{Lawful}
@@ -25,6 +25,9 @@ sound_at d n e = subst (λ (m : ℕ). Sound m (listed d)) e (sound_of d)
 
 pub few_of : (d : Diagram) → length (listed d) ≤ capacity d
 few_of d = entries_fit d.nodes
+
+pub short_of : (d : Diagram) → length (listed d) ≤ 65534
+short_of d = omega (arith, few_of d, d.small)
 
 pub lawful_of : (d : Diagram) → Lawful (showing d)
 lawful_of d = lawful d.n (capacity d) d.some d.wide d.small (listed d) (few_of d) (sound_of d)

@@ -1,4 +1,5 @@
 mod Grown
+mod Words
 mod Remembering
 mod Fields
 mod Operands

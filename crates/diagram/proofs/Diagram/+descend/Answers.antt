@@ -49,7 +49,7 @@ returns-in_err-number g t c =
     c.descend-2.new.self c.in_ok-high.high c.in_ok-high.ensures c.join.new.self c.in_err-number.field-0.0 p.0 c.in_err-number.ensures)
 
 pub returns-in-Some-lookup : goal.returns-in-Some-lookup
-returns-in-Some-lookup g t c = recalled c.args.self.now (g.T.Expand.asks c.args.kind) c.in-Some-lookup.number (rw c.task-task.ensures at c.in-Some-lookup.ensures)
+returns-in-Some-lookup g t c = recalled c.args.self.now (g.T.Expand.asks c.args.kind) c.in-Some-lookup.number c.requires (rw c.task-task.ensures at c.in-Some-lookup.ensures)
 
 pub invariant_of-self : goal.invariant_of-self
 invariant_of-self g t c =
