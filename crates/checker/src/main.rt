@@ -11,11 +11,13 @@ use std::io::Read;
 const RECORDS: usize = 8192;
 
 fn main(rt: HostRuntime) -> io::Result<()> {
+    let mut records = [Node::default(); RECORDS];
+    let mut links = [0; RECORDS];
+    // Made before the job comes, and lent, since it is large.
+    let mut store = Diagram::new(VARIABLES, &mut records, &mut links);
     let mut job = Vec::new(rt.alloc());
     // One byte more tells a job that is too long.
     rt.stdin().take(LONGEST + 1).read_to_end(&mut job)?;
-    let mut records = [Node::default(); RECORDS];
-    let mut links = [0; RECORDS];
-    let report = report_on(&job, Diagram::new(VARIABLES, &mut records, &mut links));
+    let report = report_on(&job, &mut store);
     print!(rt; "{report}")
 }

@@ -80,3 +80,21 @@ pub trait Store {
         ensures same { shows self.new ≡ shows self.old }
         ensures told { TellsFigures (shows self.old) result };
 }
+
+// A lent store is a store, so that whoever takes one can be handed the reference: a store may be large.
+impl<S: Store> Store for &mut S {
+    ghost shows = { λ s. S.Store.shows s.now };
+
+    #[inline(always)]
+    fn answer(&mut self, task: Task) -> Result<u16, Refusal> {
+        (**self).answer(task)
+    }
+
+    fn value(&mut self, a: u16, w: u32) -> Result<bool, Refusal> {
+        (**self).value(a, w)
+    }
+
+    fn figures(&mut self) -> Figures {
+        (**self).figures()
+    }
+}

@@ -10,16 +10,16 @@ use Rattle.diagram.proofs.Diagram.join.Goals as goal
 use Rattle.diagram.proofs.Diagram.join.Goals.{After-find_or_add, In_ok-find_or_add}
 
 -- the node may stand at the next place
-fit : (c : After-find_or_add) → Fit c.args.self.now.n (listed c.args.self.now) (length (listed c.args.self.now)) (record { variable = c.args.variable; low = c.args.low; high = c.args.high })
-fit c = record { below = c.requires.below; earlier = c.requires.held; under = c.requires.under; differ = c.if-low-high.false }
+fit : (c : After-find_or_add) → Fit c.args.self.now.n (listed c.args.self.now) (length (listed c.args.self.now)) c.args.node
+fit c = record { below = c.requires.below; earlier = c.requires.held; under = c.requires.under; differ = c.if-node.false }
 
-pub returns-then-low-high : goal.returns-then-low-high
-returns-then-low-high c =
+pub returns-then-node : goal.returns-then-node
+returns-then-node c =
     let d = c.args.self.now in
     record {
       vars = refl;
       capacity = refl;
-      outcome = join_same d.n (listed d) (sound_of d) c.args.variable c.args.low c.args.high c.requires.below c.requires.held c.requires.under c.if-low-high.true;
+      outcome = join_same d.n (listed d) (sound_of d) c.args.node.variable c.args.node.low c.args.node.high c.requires.below c.requires.held c.requires.under c.if-node.true;
     }
 
 pub invariant_of-self : goal.invariant_of-self

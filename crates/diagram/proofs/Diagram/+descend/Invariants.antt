@@ -1,8 +1,0 @@
-use Rattle.std.proofs.Common.{◌-◌}
-use Rattle.diagram.specs.Asked.{peak}
-use Rattle.diagram.specs.Shows.{listed}
-use Rattle.diagram.proofs.Diagram.+descend.Given as goal
-
--- the distance to variable n falls
-abbrev pub decreases-descend : goal.decreases-descend
-decreases-descend g l = l.self.now.n - peak l.self.now.n (listed l.self.now) (g.T.Expand.asks l.kind)
