@@ -92,7 +92,9 @@ pub fn read(file: &[u8], width: u8) -> Result<Circuit, Refusal>
     if width < needed {
         return Err(Refusal::Width(needed));
     }
-    Netlist::read(file, sizes).checked()
+    let netlist = Netlist::read(file, sizes);
+    netlist.check()?;
+    Ok(Circuit { netlist })
 }
 
 // The tests that the checks are stated by tell what they should.

@@ -1,14 +1,12 @@
 // Netlists as their files say them, and the checks on what their lines are.
-ghost use Rattle.std.specs.Prelude.{◌≡◌, ℕ, ◌+◌, ◌<◌, length, IfOk, MatchResult};
+ghost use Rattle.std.specs.Prelude.{◌≡◌, ℕ, ◌+◌, ◌<◌, Ok, Err, length, MatchResult};
 ghost use Rattle.circuit.specs.declared.refusal.Refusal.TheVariants.{Wire};
 ghost use Rattle.circuit.specs.Files.{says};
 ghost use Rattle.circuit.specs.Lines.{touching};
 ghost use Rattle.circuit.specs.Netlists.{sizes, gate_line, init_line};
-ghost use Rattle.circuit.specs.Reading.{netlist, answered};
 ghost use Rattle.circuit.specs.Rules.{Wired, Sound, first_miswired, checking};
 ghost use Rattle.circuit.specs.Steps.{InRange, Sized};
 
-use super::circuit::Circuit;
 use super::gate::Gate;
 use super::literal::Literal;
 use super::refusal::Refusal;
@@ -53,17 +51,16 @@ impl Netlist {
         }
     }
 
-    // The circuit that this is, if it passes the checks on its lines.
-    pub(crate) fn checked(self) -> Result<Circuit, Refusal>
-        requires { InRange (sizes self) }
-        ensures reads { answered result ≡ checking self }
-        ensures sound { IfOk result (λ c. Sound (netlist c)) }
+    // The checks on the lines.
+    pub(crate) fn check(&self) -> Result<(), Refusal>
+        requires { InRange (sizes self.now) }
+        ensures { MatchResult result (λ _. (checking self.now ≡ Ok self.now) × Sound self.now) (λ e. checking self.now ≡ Err e) }
     {
         self.check_wires()?;
         if self.init_touches() {
             return Err(Refusal::Start(self.gates.len() as u16 - 1));
         }
-        Ok(Circuit { netlist: self })
+        Ok(())
     }
 
     fn gate_line(&self, g: u16) -> usize
