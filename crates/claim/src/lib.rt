@@ -24,7 +24,8 @@ use reader::{Depth, Reader};
 // The most bytes of a text, and so the most codes of a claim.
 pub const LONGEST: usize = 512;
 
-// Reads a claim about a circuit of these sizes.
+// Reads a claim about a circuit of these sizes. Inlined: its codes are large, and are moved from frame to frame else.
+#[inline(always)]
 pub fn read(text: &[u8], sizes: Sizes) -> Result<Codes, Fault>
     ensures answer { MatchResult result (λ c. Reads text.now sizes c) (λ f. Refused text.now sizes f) }
     ensures exact { Exact text.now sizes }
