@@ -6,8 +6,7 @@ use crate::parts::Polarities;
 use store::Store;
 use store::refusal::Refusal;
 
-// The function a with false put for variable x, and with true. Inlined, since the pair would go through memory.
-#[inline(always)]
+// The function a with false put for variable x, and with true.
 pub(crate) fn cofactors<S: Store>(store: &mut S, a: u16, x: u8) -> Result<(u16, u16), Refusal>
     ensures { Cofactors (S.Store.shows store.old) a x result (S.Store.shows store.new) }
 {
