@@ -24,7 +24,7 @@ use reader::{Depth, Reader};
 // The most bytes of a text, and so the most codes of a claim.
 pub const LONGEST: usize = 512;
 
-// Reads a claim about a circuit of these sizes. Inlined: its codes are large, and are moved from frame to frame else.
+// Reads a claim about a circuit of these sizes. Inlined, since its frame is large: as a call of its own it made short jobs slower.
 #[inline(always)]
 pub fn read(text: &[u8], sizes: Sizes) -> Result<Codes, Fault>
     ensures answer { MatchResult result (λ c. Reads text.now sizes c) (λ f. Refused text.now sizes f) }

@@ -1,5 +1,5 @@
 // The kinds of tasks that are made by Shannon's expansion: from their halves by the first variable, which are of the same kind.
-// A type for each kind, and no enum: a descent stays in its kind, and with a match at each step it was slower.
+// A type for each kind, and no enum: a descent stays in its kind, which need not be asked for at each step.
 ghost use Rattle.std.specs.Prelude.{◌≡◌, None, true, false};
 ghost use Rattle.store.specs.declared.task.Task.{Task};
 ghost use Rattle.store.specs.declared.task.Task.TheVariants.{Not, Both, Cofactor};

@@ -9,8 +9,8 @@ const BITS: u32 = 13;
 
 const SLOTS: usize = 1 << BITS;
 
-// A slot is a word: the key of a task and then, in its last 16 bits, the number of its function. No struct of them: it would be
-// written and compared field by field, and what was just written in parts is slow to load as a whole.
+// A slot is a word: the key of a task and then, in its last 16 bits, the number of its function. No struct of them, since it would
+// be compared and written field by field.
 #[derive(Drop)]
 pub struct Memo {
     slots: [u64; SLOTS],

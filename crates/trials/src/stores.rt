@@ -74,14 +74,14 @@ fn layer<S: Store>(store: S) -> Layer<S> {
     Layer::new(store, &ORDER)
 }
 
-// With a link for each record, for some of them and for none; what the links held before does not matter.
+// With a link for each record, for some of them and for none; what the links held before does not matter. One is lent.
 #[test]
 fn makes_agree(rt: HostRuntime) -> Result<(), Fail> {
     let heap = rt.alloc();
     let mut nodes = [Node::default(); 300];
     let mut tables = [Truths::default(); 100];
     let mut links = [7; 300];
-    let told = driven(Diagram::new(4, &mut nodes, &mut links), heap)?;
+    let told = driven(&mut Diagram::new(4, &mut nodes, &mut links), heap)?;
     assert_eq!(rt; told.get(2).copied(), Some(0xf0f0));
     assert_eq!(rt; driven(Table::new(4, &mut tables, &mut links), heap)?, told);
     assert_eq!(rt;
@@ -123,6 +123,7 @@ fn bare<S: Store + Drop>(rt: &impl Abort, mut store: S) {
 fn stores_with_no_records(rt: HostRuntime) {
     bare(&rt, Diagram::new(2, &mut [], &mut []));
     bare(&rt, Table::new(2, &mut [], &mut []));
+    bare(&rt, &mut Table::new(2, &mut [], &mut []));
     bare(&rt, Layer::new(Diagram::new(2, &mut [], &mut []), &[1, 0]));
     bare(&rt, Layer::new(Table::new(2, &mut [], &mut []), &[1, 0]));
 }
