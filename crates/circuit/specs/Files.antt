@@ -1,9 +1,9 @@
 -- What the bytes of a circuit file say.
-use Rattle.std.specs.Prelude.{ℕ, ◌+◌, ◌*◌, ◌/◌, ◌%◌, ◌==◌, List, map, slice_index}
+use Rattle.std.specs.Prelude.{ℕ, ◌+◌, ◌*◌, List, map, slice_index}
 use Rattle.std.specs.List.{range_with_len}
 use Rattle.circuit.specs.declared.gate.Gate.{Gate}
-use Rattle.circuit.specs.declared.literal.Literal.{Literal}
 use Rattle.circuit.specs.declared.sizes.Sizes.{Sizes}
+use Rattle.circuit.specs.Literals.{literal_of}
 use Rattle.circuit.specs.Netlists.{Netlist}
 
 -- number i of a file: two bytes, low byte first
@@ -22,10 +22,6 @@ count bs = number_at bs 2
 
 abbrev pub sizes_at : List ℕ → Sizes
 sizes_at bs = record { registers = registers bs; inputs = inputs bs; gates = count bs }
-
--- number 2x is line x, and 2x + 1 is its negation
-abbrev pub literal_of : ℕ → Literal
-literal_of x = record { line = x / 2; negated = x % 2 == 1 }
 
 -- all left literals come before all right literals
 abbrev pub gate_at : List ℕ → ℕ → ℕ → Gate

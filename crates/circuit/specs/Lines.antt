@@ -2,7 +2,7 @@
 use Rattle.std.specs.Prelude.{◌≡◌, ℕ, ◌<◌, Bool, true, false, cond, not, ◌&&◌, ◌||◌, List, [], ◌∷◌, ◌++◌, map, length, get_or, replicate, slice_index_or}
 use Rattle.std.specs.List.{range_with_len}
 use Rattle.circuit.specs.declared.gate.Gate.{Gate}
-use Rattle.circuit.specs.declared.literal.Literal.{Literal}
+use Rattle.circuit.specs.Literals.{Literal}
 use Rattle.circuit.specs.Netlists.{Netlist, gate, register_line, input_line, gate_line}
 
 abbrev pub literal : (ℕ → Bool) → Literal → Bool

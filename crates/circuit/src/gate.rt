@@ -15,7 +15,7 @@ impl Gate {
     pub(crate) fn names_below(self, line: usize) -> bool
         ensures { result ≡ (nat_lt self.left.line line && nat_lt self.right.line line) }
     {
-        usize::from(self.left.line) < line && usize::from(self.right.line) < line
+        usize::from(self.left.line()) < line && usize::from(self.right.line()) < line
     }
 
     // Whether one of the literals names a line that is marked.
@@ -23,7 +23,7 @@ impl Gate {
         ensures { result ≡ either (λ x. slice_index_or marks.now x false) self }
     {
         let marked = |literal: Literal| {
-            let line = usize::from(literal.line);
+            let line = usize::from(literal.line());
             marks.get(line).copied().unwrap_or(false)
         };
         marked(self.left) || marked(self.right)

@@ -1,11 +1,28 @@
 ghost use Rattle.std.specs.Prelude.{◌≡◌};
-ghost use Rattle.circuit.specs.Files.{literal_of};
+ghost use Rattle.circuit.specs.Literals.{literal_of};
 
-// A line or its negation.
+use std::marker::Model;
+
+// A line or its negation, in two bytes: moving the gates of a circuit takes time.
 #[derive(Clone, Copy, Default, PartialEq, Eq, Debug)]
 pub struct Literal {
-    pub line: u16,
-    pub negated: bool,
+    number: u16,
+}
+
+impl Model for Literal {
+    ghost use Rattle.std.specs.Prelude.{ℕ, ◌≡◌};
+    ghost use Rattle.std.proofs.Common.{arith};
+    ghost use Rattle.circuit.specs.Literals.{Literal as Said, literal_of, literal_number};
+
+    ghost Value = { Said };
+
+    ghost view = { λ l. literal_of l.number };
+
+    ghost inverse = { λ x. record { number = literal_number x } };
+
+    ghost inverse_ok = { λ l h.
+        let e : literal_number (literal_of l.number) ≡ l.number = Prim.grind arith in
+        λ i. record { number = e i } };
 }
 
 impl Literal {
@@ -13,9 +30,18 @@ impl Literal {
     pub(crate) fn read(number: u16) -> Literal
         ensures { result ≡ literal_of number }
     {
-        Literal {
-            line: number / 2,
-            negated: number % 2 == 1,
-        }
+        Literal { number }
+    }
+
+    pub fn line(self) -> u16
+        ensures { result ≡ self.line }
+    {
+        self.number / 2
+    }
+
+    pub fn is_negated(self) -> bool
+        ensures { result ≡ self.negated }
+    {
+        self.number % 2 == 1
     }
 }

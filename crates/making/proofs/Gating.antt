@@ -1,10 +1,10 @@
 -- The gates of a circuit, one after the other.
-use Rattle.std.proofs.Common.{◌≡◌, ℕ, suc, ◌+◌, ◌<◌, List, [], ◌∷◌, ◌++◌, length, get_or, Result, sym, ◌∙◌, subst, add-one, arith}
+use Rattle.std.proofs.Common.{◌≡◌, ℕ, suc, ◌+◌, ◌<◌, List, [], ◌∷◌, ◌++◌, length, Result, sym, ◌∙◌, subst, add-one, arith}
 use Rattle.store.specs.declared.refusal.Refusal.{Refusal}
 use Rattle.store.specs.Fun.{Fn}
 use Rattle.store.specs.Meaning.{Shown, Lawful}
 use Rattle.circuit.specs.declared.gate.Gate.{Gate}
-use Rattle.circuit.specs.Netlists.{blank, gate, gate_line}
+use Rattle.circuit.specs.Netlists.{gate, gate_line}
 use Rattle.description.specs.declared.part.Part.TheVariants.{Circuit}
 use Rattle.runs.specs.Functions.{both}
 use Rattle.runs.specs.Valuations.{literal_fn, line_fn}
@@ -29,10 +29,10 @@ module _ (m : Model) (s : Shown) where
   gates_none ns h = (ended, h, λ l. absurd (omega arith))
 
   module _ (ok : Valid m) (t u : Shown) (ns : List ℕ) (k : ℕ) (lt : k < length m.circuit.gates) (sofar : Sofar t ns k) where
-    pub gate_ends : (gs : List Gate) (r : Result ℕ Refusal) → gs ≡ m.circuit.gates → (ns' : List ℕ) → ns' ≡ ns → GatesOne t ns' (get_or gs k blank) r u
+    pub gate_ends : (g : Gate) (r : Result ℕ Refusal) → g ≡ gate m.circuit k → (ns' : List ℕ) → ns' ≡ ns → GatesOne t ns' g r u
         → Ends plain t u (at Circuit k (gate_list (line_fn m) (gate m.circuit k))) (λ a. Lawful u × Means u a (fn_of k)) r
-    gate_ends gs r e ns' d h =
-        subst (λ (xs : List Gate). GatesOne t ns (get_or xs k blank) r u) e (subst (λ xs. GatesOne t xs (get_or gs k blank) r u) d h) Circuit k (line_fn m) (sofar.1 _ (ok.circuit.wired k lt).0) (sofar.1 _ (ok.circuit.wired k lt).1)
+    gate_ends g r e ns' d h =
+        subst (λ (x : Gate). GatesOne t ns x r u) e (subst (λ xs. GatesOne t xs g r u) d h) Circuit k (line_fn m) (sofar.1 _ (ok.circuit.wired k lt).0) (sofar.1 _ (ok.circuit.wired k lt).1)
 
     pub gate_more : (a : ℕ) → Runs t (at Circuit k (gate_list (line_fn m) (gate m.circuit k))) u × (Lawful u × Means u a (fn_of k)) → length ns ≡ gate_line m.circuit k
         → (ns' : List ℕ) → ns' ≡ ns ++ a ∷ [] → Sofar u ns' (k + 1)

@@ -4,7 +4,7 @@ use Rattle.store.specs.declared.refusal.Refusal.{Refusal}
 use Rattle.store.specs.Fun.{Fn}
 use Rattle.store.specs.Meaning.{Shown}
 use Rattle.circuit.specs.declared.gate.Gate.{Gate}
-use Rattle.circuit.specs.declared.literal.Literal.{Literal}
+use Rattle.circuit.specs.Literals.{Literal}
 use Rattle.description.specs.declared.part.Part.{Part}
 use Rattle.runs.specs.Functions.{negated, both}
 use Rattle.making.specs.Making.{at, ended, Means}

@@ -2,7 +2,7 @@
 use Rattle.std.specs.Prelude.{ℕ, ◌+◌, true, false, cond, List, [], ◌∷◌, ◌++◌}
 use Rattle.store.specs.Fun.{Fn, bit, fix}
 use Rattle.circuit.specs.declared.gate.Gate.{Gate}
-use Rattle.circuit.specs.declared.literal.Literal.{Literal}
+use Rattle.circuit.specs.Literals.{Literal}
 use Rattle.circuit.specs.Netlists.{gate}
 use Rattle.claim.specs.Grammar.{Tree, const, named, neg, conj, disj}
 use Rattle.description.specs.declared.part.Part.{Part}

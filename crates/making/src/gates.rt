@@ -20,8 +20,8 @@ use store::refusal::Refusal;
 fn literal<S: Store>(store: &mut S, numbers: &[u16], x: Literal) -> Result<u16, Refusal>
     ensures { Literally (S.Store.shows store.old) numbers.now x result (S.Store.shows store.new) }
 {
-    let a = numbers.get(usize::from(x.line)).copied().unwrap_or(FALSE);
-    if x.negated { store.not(a) } else { Ok(a) }
+    let a = numbers.get(usize::from(x.line())).copied().unwrap_or(FALSE);
+    if x.is_negated() { store.not(a) } else { Ok(a) }
 }
 
 fn conjunction<S: Store>(store: &mut S, numbers: &[u16], gate: Gate) -> Result<u16, Refusal>

@@ -3,7 +3,7 @@ use Rattle.std.proofs.Common.{◌≡◌, ℕ, ◌+◌, ◌*◌, ◌^◌, ◌<◌
 use Rattle.std.specs.List.{range_with_len}
 use Rattle.std.proofs.lemmas.List.FromFn.{fill_by_all, get_or-map-range_with_len, length-map-range_with_len}
 use Rattle.store.specs.Fun.{Fn, bit}
-use Rattle.circuit.specs.declared.literal.Literal.{Literal}
+use Rattle.circuit.specs.Literals.{Literal}
 use Rattle.circuit.specs.Netlists.{Netlist, gate, gate_line, lines, next_line, init_line}
 use Rattle.circuit.specs.Lines.{literal, conjunction, Values, line, extended}
 use Rattle.circuit.specs.Rules.{Determined}

@@ -1,7 +1,7 @@
 -- The functions of a model over the valuations of a store: its lines, its claims and its sets.
 use Rattle.std.specs.Prelude.{◌≡◌, ℕ, suc, ◌+◌, ◌*◌, ◌^◌, ◌<◌, ◌≤◌, Bool, false, cond, not, length, Decides}
 use Rattle.store.specs.Fun.{Fn, bit, Same, same}
-use Rattle.circuit.specs.declared.literal.Literal.{Literal}
+use Rattle.circuit.specs.Literals.{Literal}
 use Rattle.circuit.specs.Netlists.{Netlist, gate, register_line, input_line, gate_line, next_line, init_line}
 use Rattle.circuit.specs.Lines.{line}
 use Rattle.circuit.specs.declared.sort.Sort.{Sort}

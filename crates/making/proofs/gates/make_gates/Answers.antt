@@ -1,4 +1,5 @@
-use Rattle.std.proofs.Common.{◌≡◌, suc, ◌+◌, ◌<◌, length, ap, ◌∙◌, subst, arith}
+use Rattle.std.proofs.Common.{◌≡◌, suc, ◌+◌, ◌<◌, length, ap, ◌∙◌, subst, arith, rules}
+use Rattle.std.proofs.lemmas.List.{get_or_default}
 use Rattle.circuit.specs.Netlists.{gate, gate_line}
 use Rattle.circuit.specs.Reading.{netlist}
 use Rattle.description.specs.declared.part.Part.TheVariants.{Circuit}
@@ -37,7 +38,8 @@ returns-in_err-number-clause-gates g c h =
     let lt : k < length n.gates = omega (arith, c.loop-g-test.true, ap length c.gates-gate-items.ensures) in
     let s = g.S.Store.shows c.args.store.now in
     let r = c.loop-g.invariant.1 h in
-    let q = gate_ends m s ok _ _ c.loop-g.numbers.items k lt r _ c.conjunction-made.result c.gates-gate-items.ensures _ c.deref.ensures.0 c.conjunction-made.ensures in
+    let e : c.gate-item.result ≡ gate n k = search (rules, get_or_default) in
+    let q = gate_ends m s ok _ _ c.loop-g.numbers.items k lt r _ c.conjunction-made.result e _ c.deref.ensures.0 c.conjunction-made.ensures in
     broke c.from_residual.result c.in_err-number.field-0.0 c.from_residual.ensures.1
     (ends_upto (λ i. at Circuit i (gate_list (line_fn m) (gate n i))) (suc k) (length n.gates) lt
     (ends_after r.0 (placed_err Circuit k c.conjunction-made.result c.place_at.ensures (lies_at Circuit k _) q c.in_err-number.was)))
@@ -53,7 +55,8 @@ loop-g-preserved g c = (
       let lt : k < length n.gates = omega (arith, c.loop-g-test.true, ap length c.gates-gate-items.ensures) in
       let s = g.S.Store.shows c.args.store.now in
       let r = c.loop-g.invariant.1 h in
-      let q = gate_ends m s ok _ _ c.loop-g.numbers.items k lt r _ c.conjunction-made.result c.gates-gate-items.ensures _ c.deref.ensures.0 c.conjunction-made.ensures in
+      let e : c.gate-item.result ≡ gate n k = search (rules, get_or_default) in
+      let q = gate_ends m s ok _ _ c.loop-g.numbers.items k lt r _ c.conjunction-made.result e _ c.deref.ensures.0 c.conjunction-made.ensures in
       gate_more m s ok _ _ c.loop-g.numbers.items k lt r c.in_ok-number.number (placed_ok Circuit k c.conjunction-made.result c.place_at.ensures (lies_at Circuit k _) q c.in_ok-number.was) c.loop-g.invariant.0 c.push.new.self.items c.push.ensures.items,
 )
 

@@ -1,4 +1,6 @@
 use Rattle.std.proofs.Common.{◌≡◌, ◌-◌, false, length, get_or, rules, ◌∙◌, subst}
+use Rattle.std.proofs.lemmas.List.{get_or_default}
+use Rattle.circuit.specs.Netlists.{gate}
 use Rattle.circuit.proofs.Marks.{Marked, front_more, marked_front, marked_more, marked_last}
 use Rattle.circuit.proofs.netlist.Netlist.init_touches.Goals as goal
 
@@ -12,8 +14,8 @@ loop-gate-init c = marked_front c.args.self.now c.loop-line.marks.items c.loop-l
 
 pub loop-gate-preserved : goal.loop-gate-preserved
 loop-gate-preserved c =
-    let gs : c.as_slice-gate-items.result.now ≡ c.args.self.now.gates = search rules in
-    rw (c.push-in-loop-gate.ensures.items, c.names_marked-touches.ensures, gs, c.as_slice.ensures.value)
+    let item : c.gate-item.result ≡ gate c.args.self.now c.loop-gate.gate-index = search (rules, get_or_default) in
+    rw (c.push-in-loop-gate.ensures.items, c.names_marked-touches.ensures, item, c.as_slice.ensures.value)
     (marked_more c.args.self.now c.loop-gate.marks.items c.loop-gate.gate-index (search rules) c.loop-gate.invariant)
 
 pub returns : goal.returns
