@@ -14,7 +14,7 @@ impl fmt::Display for Trace {
         for (t, step) in self.steps.as_slice().iter().enumerate() {
             let state = step.state;
             let input = step.input;
-            write!(f, "{t} {state} {input}\n")?;
+            writeln!(f, "{t} {state} {input}")?;
         }
         Ok(())
     }
@@ -29,20 +29,20 @@ impl fmt::Display for Report {
                 sizes,
                 depth,
                 inside,
-            } => write!(
+            } => writeln!(
                 f,
-                "{sizes}\nverdict safe\ndepth {depth}\ninside {inside}\naccepted 1\n"
+                "{sizes}\nverdict safe\ndepth {depth}\ninside {inside}\naccepted 1"
             ),
             Report::Unsafe { sizes, trace } => {
                 let depth = trace.depth();
-                write!(
+                writeln!(
                     f,
-                    "{sizes}\nverdict unsafe\ndepth {depth}\n{trace}accepted 0\n"
+                    "{sizes}\nverdict unsafe\ndepth {depth}\n{trace}accepted 0"
                 )
             }
             Report::Refused(fault) => {
                 let notice = fault.notice();
-                write!(f, "{notice}\naccepted 0\n")
+                writeln!(f, "{notice}\naccepted 0")
             }
         }
     }

@@ -15,6 +15,7 @@ pub enum Fault {
 }
 
 impl Fault {
+    // A method, here and for the faults above, and no `From`: that would say the same by a ghost member, in more lines.
     pub fn notice(self) -> Notice
         ensures { result ≡ notice_of self }
     {

@@ -3,6 +3,8 @@
 
 ghost use Rattle.std.specs.Prelude.{◌≤◌};
 ghost use Rattle.records.specs.Contents.{entries, room};
+ghost use Rattle.store.specs.declared.TheConstants.{MOST_VARIABLES};
+ghost use Rattle.store.specs.declared.fitting.TheConstants.{MOST_RECORDS};
 ghost use Rattle.nodes.specs.Graph.{Sound};
 ghost use Rattle.diagram.specs.Remembered.{Right};
 
@@ -27,8 +29,8 @@ pub struct Diagram<'a> {
     nodes: List<'a, Node>,
     memo: Memo,
     ghost some: { 1 ≤ n },
-    ghost wide: { n ≤ 24 },
-    ghost small: { room nodes ≤ 65534 },
+    ghost wide: { n ≤ MOST_VARIABLES },
+    ghost small: { room nodes ≤ MOST_RECORDS },
     ghost sound: { ∥ Sound n (entries nodes) ∥₁ },
     ghost remembered: { ∥ Right n (entries nodes) (room nodes) memo ∥₁ },
 }

@@ -16,8 +16,8 @@ pub struct Memo {
     slots: [u64; SLOTS],
 }
 
-// Inlined like all here, since where the kind of a task is known, its key is straight code.
 // The kind of the task and its operands, side by side. No derived hash: a hasher to take it would say the same in more lines.
+// Inlined with what looks up and remembers, since where the kind of a task is known, its key is straight code.
 #[inline(always)]
 fn key(task: Task) -> u64
     ensures key { result ≡ key task }

@@ -1,4 +1,4 @@
-// The order of a layer's variables, in a fixed array.
+// The order of a layer's variables.
 ghost use Rattle.std.specs.Prelude.{◌≡◌, ◌≤◌, true, false, [], length, MatchOption};
 ghost use Rattle.order.specs.Listing.{times, is_order, place};
 ghost use Rattle.order.specs.Renaming.{placed, task_below};

@@ -4,8 +4,8 @@ ghost use Rattle.records.specs.Chains.{buckets, Cut, limit, Newest, Unwound};
 
 pub(crate) const BUCKETS: usize = 16384;
 
-// A head or a link is 1 + a place, or 0 for none: the links are lent as numbers of 16 bits, which an `Option` has no room in, and a walk keeps
-// to them as they stand. What the links of other places hold does not matter.
+// A head or a link is 1 + a place, or 0 for none: the links are lent as numbers of 16 bits, which an `Option` has no room in, and a walk that
+// made an `Option` of each would only take it apart. What the links of other places hold does not matter.
 #[derive(Drop)]
 pub struct Index<'a> {
     heads: [u16; BUCKETS],

@@ -126,7 +126,7 @@ impl<'a, T: Entry> List<'a, T> {
     }
 
     // The lowest place of an equal entry; else the entry is added at the end, if a record is left.
-    // Inlined with what it calls: an entry that is passed goes through memory, and a descent took a quarter longer.
+    // Inlined with what it calls, since an entry that is passed goes through memory.
     #[inline(always)]
     pub fn find_or_add(&mut self, item: T) -> Result<usize, Full>
         ensures { Places self.old item result self.new }

@@ -5,6 +5,7 @@ use crate::entry::Entry;
 use crate::index::Index;
 
 // The first `used` of the records are in use. A slice with a length beside it, and no vector: a store's memory is lent to it.
+// The links are lent beside the records, and no field of them: by the rule there may be fewer, and later places are scanned.
 #[derive(Drop)]
 pub struct List<'a, T: Entry> {
     pub(crate) records: &'a mut [T],

@@ -4,11 +4,14 @@ ghost use Rattle.store.specs.Fitting.{fits, fitting};
 
 use super::refusal::Unfit;
 
-// Whether a store of n variables, of at most `most`, can be made over the records: a number is of 16 bits, and two are of constants.
+// A number is of 16 bits, and two are of constants.
+pub const MOST_RECORDS: usize = 65534;
+
+// Whether a store of n variables, of at most `most`, can be made over the records.
 pub fn fit<T>(n: u8, most: u8, records: &[T]) -> Result<(), Unfit>
     ensures { result ≡ fitting (fits n most (length records.now)) }
 {
-    if (1..=most).contains(&n) && records.len() <= 65534 {
+    if (1..=most).contains(&n) && records.len() <= MOST_RECORDS {
         Ok(())
     } else {
         Err(Unfit::Store)

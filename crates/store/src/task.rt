@@ -1,5 +1,5 @@
 // The functions that a making call asks for, and when a call is refused whatever the room.
-ghost use Rattle.std.specs.Prelude.{◌≡◌, ◌+◌, ◌^◌, nat_lt};
+ghost use Rattle.std.specs.Prelude.{◌≡◌, ◌+◌, ◌^◌, true, nat_lt};
 ghost use Rattle.store.specs.Tasks.{names, ranges, allowed};
 
 use super::refusal::Refusal;
@@ -25,13 +25,12 @@ impl Task {
     pub fn check(self, made: usize, variables: u8) -> Result<(), Refusal>
         ensures { result ≡ allowed (names (λ a. nat_lt a (made + 2)) self) (ranges variables self) }
     {
-        let (operands, within) = match self {
-            Task::Variable(i) => (true, i < variables),
-            Task::Not(a) => (holds(a, made), true),
-            Task::Both(_, a, b) => (holds(a, made) && holds(b, made), true),
-            Task::Cofactor(a, i, _) => (holds(a, made), i < variables),
-        };
-        refused(operands, within)
+        match self {
+            Task::Variable(i) => within(i < variables),
+            Task::Not(a) => held(a, made),
+            Task::Both(_, a, b) => held(a, made).and(held(b, made)),
+            Task::Cofactor(a, i, _) => held(a, made).and(within(i < variables)),
+        }
     }
 }
 
@@ -39,25 +38,27 @@ impl Task {
 pub fn check_value(a: u16, w: u32, made: usize, variables: u8) -> Result<(), Refusal>
     ensures { result ≡ allowed (nat_lt a (made + 2)) (nat_lt w (2 ^ variables)) }
 {
-    refused(holds(a, made), variables >= 32 || w < 1 << variables)
+    held(a, made).and(within(variables >= 32 || w < 1 << variables))
 }
 
-// Whether number a is held: the constants have the first two numbers, and what was made has the next ones.
-fn holds(a: u16, made: usize) -> bool
-    ensures { result ≡ nat_lt a (made + 2) }
+// Refuses a number that is not held: the constants have the first two, and what was made has the next ones.
+fn held(a: u16, made: usize) -> Result<(), Refusal>
+    ensures { result ≡ allowed (nat_lt a (made + 2)) true }
 {
-    a < 2 || usize::from(a) - 2 < made
-}
-
-// By whether the numbers are held, and whether the variable or the valuation is in range.
-fn refused(held: bool, within: bool) -> Result<(), Refusal>
-    ensures { result ≡ allowed held within }
-{
-    if !held {
-        Err(Refusal::Number)
-    } else if !within {
-        Err(Refusal::Variable)
-    } else {
+    if a < 2 || usize::from(a) - 2 < made {
         Ok(())
+    } else {
+        Err(Refusal::Number)
+    }
+}
+
+// Refuses what is out of range.
+fn within(holds: bool) -> Result<(), Refusal>
+    ensures { result ≡ allowed true holds }
+{
+    if holds {
+        Ok(())
+    } else {
+        Err(Refusal::Variable)
     }
 }

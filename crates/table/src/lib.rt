@@ -4,6 +4,7 @@
 ghost use Rattle.std.specs.Prelude.{◌≡◌, ◌≤◌, true, [], length, if◌then◌else◌};
 ghost use Rattle.records.specs.Contents.{entries, room};
 ghost use Rattle.store.specs.Fitting.{fitting};
+ghost use Rattle.store.specs.declared.fitting.TheConstants.{MOST_RECORDS};
 ghost use Rattle.store.specs.Meaning.{Fresh, Lawful};
 ghost use Rattle.table.specs.declared.TheConstants.{MOST};
 ghost use Rattle.table.specs.Shows.{shown, showing, sound, suits};
@@ -26,7 +27,7 @@ pub struct Table<'a> {
     list: List<'a, Truths>,
     ghost some: { 1 ≤ n },
     ghost few: { n ≤ MOST },
-    ghost small: { room list ≤ 65534 },
+    ghost small: { room list ≤ MOST_RECORDS },
     ghost apart: { sound n (entries list) ≡ true },
 }
 

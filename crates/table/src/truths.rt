@@ -6,14 +6,18 @@ ghost use Rattle.table.specs.Tables.{truth, packed, packed_truths, table, Consta
 ghost use Rattle.table.specs.Hash.{mixed};
 ghost use Rattle.table.specs.Identity.{truths_exact};
 
+use crate::MOST;
 use records::entry::Entry;
 use std::array;
 use store::bits::bit;
 
+// A bit for each valuation of the most variables.
+const BYTES: usize = 1 << (MOST - 3);
+
 // Its value at the valuation w is bit w mod 8 of byte w div 8.
 #[derive(Clone, Copy, PartialEq, Eq, Default, Debug)]
 pub struct Truths {
-    pub bytes: [u8; 128],
+    pub bytes: [u8; BYTES],
 }
 
 impl Entry for Truths {
@@ -21,10 +25,10 @@ impl Entry for Truths {
 
     ghost exact = { truths_exact };
 
-    // The first bytes tell functions of few variables apart, and the others help with more.
+    // The first bytes tell functions of few variables apart, and the others help with more. The weights add up to what 16 bits hold of 255 each.
     fn hash(self) -> u16 {
         let low = u16::from(self.bytes[0]) + 64 * u16::from(self.bytes[1]);
-        let high = 91 * u16::from(self.bytes[3]) + 101 * u16::from(self.bytes[127]);
+        let high = 91 * u16::from(self.bytes[3]) + 101 * u16::from(self.bytes[BYTES - 1]);
         low + high
     }
 }
@@ -70,7 +74,7 @@ impl Truths {
 
 // Byte j of those values.
 fn byte<F: Fn(u32) -> bool>(f: &F, j: usize) -> u8
-    requires below { j < 128 }
+    requires below { j < BYTES }
     requires callable { F.IsAlwaysCallable f.now }
     ensures { (g : Fn) → Computes (2 ^ MOST) (F.post f.now) g → result ≡ packed 8 (8 * j) g }
 {

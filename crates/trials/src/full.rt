@@ -6,11 +6,10 @@ use std::alloc::Global;
 use std::process::Abort;
 use std::test::Fail;
 use store::Store;
+use store::fitting::MOST_RECORDS;
 use store::refusal::{Refusal, Unfit};
 use table::Table;
 use table::truths::Truths;
-
-const MOST: usize = 65534;
 
 // The products of a literal of each of the first `count` variables, or those of the last round that there is room for.
 fn products<S: Store>(
@@ -44,12 +43,12 @@ fn products<S: Store>(
 // With a link for each record, and with links for half of them.
 #[test]
 fn full_diagram(rt: HostRuntime) -> Result<(), Fail> {
-    let mut records = vec![in rt.alloc(); Node::default(); MOST + 1]?;
+    let mut records = vec![in rt.alloc(); Node::default(); MOST_RECORDS + 1]?;
     assert_eq!(rt; check_diagram(15, &records), Err(Unfit::Store));
-    records.truncate(MOST);
-    let mut links = vec![in rt.alloc(); 1; MOST]?;
+    records.truncate(MOST_RECORDS);
+    let mut links = vec![in rt.alloc(); 1; MOST_RECORDS]?;
     fills(&rt, Diagram::new(15, &mut records, &mut links), rt.alloc())?;
-    links.truncate(MOST / 2);
+    links.truncate(MOST_RECORDS / 2);
     fills(&rt, Diagram::new(15, &mut records, &mut links), rt.alloc())
 }
 
@@ -69,8 +68,8 @@ fn fills<S: Store + Drop>(rt: &impl Abort, mut store: S, heap: Global) -> Result
 // Every function of 4 variables, as a union of cells: with the constants they are all 65,536 numbers.
 #[test]
 fn full_table(rt: HostRuntime) -> Result<(), Fail> {
-    let mut records = vec![in rt.alloc(); Truths::default(); MOST]?;
-    let mut links = vec![in rt.alloc(); 0; MOST]?;
+    let mut records = vec![in rt.alloc(); Truths::default(); MOST_RECORDS]?;
+    let mut links = vec![in rt.alloc(); 0; MOST_RECORDS]?;
     let mut store = Table::new(4, &mut records, &mut links);
     let cells = products(&rt, &mut store, 4, rt.alloc())?;
     let mut unions = Vec::new(rt.alloc());

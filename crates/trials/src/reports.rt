@@ -33,11 +33,11 @@ fn searches(rt: HostRuntime) -> Result<(), Fail> {
     let unsafe_text =
         "registers 1 inputs 1 gates 2\nverdict unsafe\ndepth 1\n0 0 1\n1 1 0\naccepted 0\n";
     reports(&rt, heap, &[], unsafe_text)?;
-    // `1!s` and a shorter property: unsafe at once.
+    // The property ` s0` fails at once.
     reports(
         &rt,
         heap,
-        &[(2, 3), (19, b' ')],
+        &[(19, b' ')],
         "registers 1 inputs 1 gates 2\nverdict unsafe\ndepth 0\n0 0 0\naccepted 0\n",
     )?;
     // The assumption `0` permits nothing.
