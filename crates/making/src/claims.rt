@@ -1,6 +1,7 @@
 // Claims over the lines of a circuit.
 ghost use Rattle.std.specs.Prelude.{◌≡◌, ℕ, ◌≤◌, List, [], ◌∷◌, ◌++◌, length};
 ghost use Rattle.circuit.specs.Reading.{netlist};
+ghost use Rattle.claim.specs.Result.{used};
 ghost use Rattle.making.specs.Models.{alone};
 ghost use Rattle.making.specs.Promises.{ActsOn, MakesClaim};
 
@@ -10,7 +11,8 @@ use crate::lines::Lines;
 use crate::places::place_at;
 use arrayvec::ArrayVec;
 use claim::LONGEST;
-use claim::code::{Act, Code};
+use claim::code::Act;
+use claim::codes::Codes;
 use description::part::Part;
 use store::Store;
 use store::refusal::Refusal;
@@ -27,6 +29,7 @@ fn pop(stack: &mut Stack) -> u16
 }
 
 // Takes the two on top: the left one, and the right one above it.
+// Not `claim`'s, which asks for two operands: this asks for none, since a missing one is false.
 fn pop_two(stack: &mut Stack) -> (u16, u16)
     ensures tops { (below : List ℕ) (a b : ℕ) → stack.old.items ≡ below ++ a ∷ b ∷ [] → (result ≡ (a, b)) × (stack.new.items ≡ below) }
     ensures lower { length stack.new.items ≤ length stack.old.items }
@@ -70,13 +73,12 @@ pub(crate) fn make_claim<S: Store>(
     store: &mut S,
     part: Part,
     lines: &Lines,
-    codes: &[Code],
+    codes: &Codes,
 ) -> Result<u16, Fault>
-    requires { length codes.now ≤ LONGEST }
-    ensures { MakesClaim (S.Store.shows store.old) part (alone (netlist lines.now.circuit.now)) codes.now lines.now.numbers.items result (S.Store.shows store.new) }
+    ensures { MakesClaim (S.Store.shows store.old) part (alone (netlist lines.now.circuit.now)) (used codes.now) lines.now.numbers.items result (S.Store.shows store.new) }
 {
     let mut stack = Stack::new();
-    for code in codes {
+    for code in codes.codes() {
         let made = act_on(store, lines, code.act, &mut stack);
         let number = place_at(made, part, code.place)?;
         stack.push(number);

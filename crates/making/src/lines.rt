@@ -45,7 +45,7 @@ impl Lines<'_> {
     pub(crate) fn init(&self) -> u16
         ensures { result ≡ slice_index self.now.numbers.items (init_line (netlist self.now.circuit.now)) }
     {
-        self.numbers[self.numbers.len() - 1]
+        self.numbers.last().copied().unwrap_or(FALSE)
     }
 
     // The numbers of the next values, on the lines before Init.

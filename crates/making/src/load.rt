@@ -40,13 +40,8 @@ pub fn build<S: Store>(store: &mut S, described: &Described) -> Result<Built, Fa
     ensures { Builds (S.Store.shows store.old) (netlist described.now.circuit) (used described.now.assumption) (used described.now.property) result (S.Store.shows store.new) }
 {
     let lines = make_lines(store, &described.circuit)?;
-    let assumed = make_claim(
-        store,
-        Part::Assumption,
-        &lines,
-        described.assumption.codes(),
-    )?;
-    let promised = make_claim(store, Part::Property, &lines, described.property.codes())?;
+    let assumed = make_claim(store, Part::Assumption, &lines, &described.assumption)?;
+    let promised = make_claim(store, Part::Property, &lines, &described.property)?;
     let start = make_start(store, &lines, assumed, promised);
     place_at(start, Part::Sets, 0)
 }

@@ -19,20 +19,20 @@ loop-code-init g c =
     let s = g.S.Store.shows c.args.store.now in (
       omega (arith, ap length c.new-stack.ensures),
       λ t e k l n.
-          subst (λ st. Going m c.args.part s s st c.args.codes.now (operators_list m c.args.part t) (claim_fn m t ∷ [])) (sym c.new-stack.ensures)
-          (going_start m c.args.part s c.args.codes.now t e k l),
+          subst (λ st. Going m c.args.part s s st c.codes-code-items.result.now (operators_list m c.args.part t) (claim_fn m t ∷ [])) (sym c.new-stack.ensures)
+          (going_start m c.args.part s c.codes-code-items.result.now t e k l),
     )
 
 pub returns-in_err-number : goal.returns-in_err-number
 returns-in_err-number g c t e k l n =
     let i = c.loop-code.code-index in
-    let cs = c.args.codes.now in
+    let cs = c.codes-code-items.result.now in
     let m = alone (netlist c.args.lines.now.circuit.now) in
     let p = c.args.part in
     let s = g.S.Store.shows c.args.store.now in
     let all = operators_list m p t in
     let end : List Fn = claim_fn m t ∷ [] in
-    let v = c.loop-code.invariant.1 t e k l n in
+    let v = c.loop-code.invariant.1 t (c.codes-code-items.ensures ∙ e) k l n in
     let v' = subst (λ i. Going m p s (g.S.Store.shows c.loop-code.store) c.loop-code.stack.items i all end) (drop-cons cs i _ c.loop-code-test.true) v in
     broke c.from_residual.result c.in_err-number.field-0.0 c.from_residual.ensures.1
     (going_stop m p s _ _ _ c.act_on-made.new.stack.items _ (drop (suc i) cs) all end v' c.act_on-made.result c.place_at.ensures
@@ -44,7 +44,7 @@ loop-code-preserved g c = (
   omega (arith, c.push.ensures.len, c.act_on-made.ensures.lower, c.loop-code.invariant.0),
   λ t e k l n.
       let i = c.loop-code.code-index in
-      let cs = c.args.codes.now in
+      let cs = c.codes-code-items.result.now in
       let m = alone (netlist c.args.lines.now.circuit.now) in
       let p = c.args.part in
       let s = g.S.Store.shows c.args.store.now in
@@ -64,9 +64,9 @@ returns g c t e k l n =
     let p = c.args.part in
     let s = g.S.Store.shows c.args.store.now in
     let x = g.S.Store.shows c.loop-code.store in
-    let cs = c.args.codes.now in
+    let cs = c.codes-code-items.result.now in
     let all = operators_list m p t in
     let q : c.loop-code.code-index ≡ length cs = omega arith in
-    let v = subst (λ i. Going m p s x c.loop-code.stack.items i all (claim_fn m t ∷ [])) (ap (λ i. drop i cs) q ∙ drop-length cs) (c.loop-code.invariant.1 t e k l n) in
+    let v = subst (λ i. Going m p s x c.loop-code.stack.items i all (claim_fn m t ∷ [])) (ap (λ i. drop i cs) q ∙ drop-length cs) (c.loop-code.invariant.1 t (c.codes-code-items.ensures ∙ e) k l n) in
     let r = going_end m p s x c.loop-code.stack.items c.pop.new.stack.items c.pop.result all (claim_fn m t) v c.pop.ensures.top in
     made r.0 r.1

@@ -2,6 +2,7 @@ use Rattle.std.proofs.Common.{◌≤◌, length, Ok, Err, sym, ap, ◌∙◌, su
 use Rattle.store.specs.Fun.{bit}
 use Rattle.circuit.specs.Netlists.{lines}
 use Rattle.circuit.specs.Reading.{netlist}
+use Rattle.claim.specs.Result.{used}
 use Rattle.description.specs.declared.part.Part.TheVariants.{Assumption, Property, Sets}
 use Rattle.runs.specs.Functions.{copy}
 use Rattle.runs.specs.Valuations.{line_fn, claim_fn, next_fn, init_fn}
@@ -17,14 +18,6 @@ use Rattle.making.proofs.Starting.{lies_start}
 use Rattle.making.proofs.Joining.{loaded_model}
 use Rattle.making.proofs.load.build.Goals as goal
 
-pub make_claim-requires : goal.make_claim-requires
-make_claim-requires g c =
-    omega (arith, ap length c.codes.ensures, c.args.described.now.assumption.within)
-
-pub make_claim-requires-2 : goal.make_claim-requires-2
-make_claim-requires-2 g c =
-    omega (arith, ap length c.codes-2.ensures, c.args.described.now.property.within)
-
 pub returns-in_err-lines : goal.returns-in_err-lines
 returns-in_err-lines g c h q eh eq kh kq l w =
     let m = model (netlist c.args.described.now.circuit) h q in
@@ -36,33 +29,33 @@ returns-in_err-assumed g c h q eh eq kh kq l w =
     let m = model (netlist c.args.described.now.circuit) h q in
     let r1 = runs_of (c.in_ok-lines.ensures.makes l w) in
     let k = c.in_ok-lines.lines in
-    let claim = subst (λ z. MakesClaim (g.S.Store.shows c.make_lines.new.store) Assumption (alone (netlist z)) c.codes.result.now k.numbers.items (Err c.in_err-assumed.field-0.0) (g.S.Store.shows c.make_claim.new.store)) c.in_ok-lines.ensures.circuit c.in_err-assumed.ensures in
+    let claim = subst (λ z. MakesClaim (g.S.Store.shows c.make_lines.new.store) Assumption (alone (netlist z)) (used c.args.described.now.assumption) k.numbers.items (Err c.in_err-assumed.field-0.0) (g.S.Store.shows c.make_claim.new.store)) c.in_ok-lines.ensures.circuit c.in_err-assumed.ensures in
     broke c.from_residual-in_err-assumed.result c.in_err-assumed.field-0.0 c.from_residual-in_err-assumed.ensures.1
-    (ends_as (append_assoc (variables_list (width m)) (gates_list m (length m.circuit.gates)) _) (ends_after r1.0 (ends_before _ (claim h (c.codes.ensures ∙ eh) kh r1.1.0 r1.1.1))))
+    (ends_as (append_assoc (variables_list (width m)) (gates_list m (length m.circuit.gates)) _) (ends_after r1.0 (ends_before _ (claim h eh kh r1.1.0 r1.1.1))))
 
 pub returns-in_err-promised : goal.returns-in_err-promised
 returns-in_err-promised g c h q eh eq kh kq l w =
     let m = model (netlist c.args.described.now.circuit) h q in
     let r1 = runs_of (c.in_ok-lines.ensures.makes l w) in
     let k = c.in_ok-lines.lines in
-    let claim = subst (λ z. MakesClaim (g.S.Store.shows c.make_lines.new.store) Assumption (alone (netlist z)) c.codes.result.now k.numbers.items (Ok c.in_ok-assumed.assumed) (g.S.Store.shows c.make_claim.new.store)) c.in_ok-lines.ensures.circuit c.in_ok-assumed.ensures in
-    let r2 = runs_of (claim h (c.codes.ensures ∙ eh) kh r1.1.0 r1.1.1) in
+    let claim = subst (λ z. MakesClaim (g.S.Store.shows c.make_lines.new.store) Assumption (alone (netlist z)) (used c.args.described.now.assumption) k.numbers.items (Ok c.in_ok-assumed.assumed) (g.S.Store.shows c.make_claim.new.store)) c.in_ok-lines.ensures.circuit c.in_ok-assumed.ensures in
+    let r2 = runs_of (claim h eh kh r1.1.0 r1.1.1) in
     let lined = numbered_kept k.numbers.items (line_fn m) (lines m.circuit) (runs_grown r2.0) r1.1.1 in
-    let promise = subst (λ z. MakesClaim (g.S.Store.shows c.make_claim.new.store) Property (alone (netlist z)) c.codes-2.result.now k.numbers.items (Err c.in_err-promised.field-0.0) (g.S.Store.shows c.make_claim-2.new.store)) c.in_ok-lines.ensures.circuit c.in_err-promised.ensures in
+    let promise = subst (λ z. MakesClaim (g.S.Store.shows c.make_claim.new.store) Property (alone (netlist z)) (used c.args.described.now.property) k.numbers.items (Err c.in_err-promised.field-0.0) (g.S.Store.shows c.make_claim-2.new.store)) c.in_ok-lines.ensures.circuit c.in_err-promised.ensures in
     broke c.from_residual-in_err-promised.result c.in_err-promised.field-0.0 c.from_residual-in_err-promised.ensures.1
     (ends_as (append_assoc (variables_list (width m)) (gates_list m (length m.circuit.gates)) _)
-    (ends_after r1.0 (ends_after r2.0 (ends_before _ (promise q (c.codes-2.ensures ∙ eq) kq r2.1.0 lined)))))
+    (ends_after r1.0 (ends_after r2.0 (ends_before _ (promise q eq kq r2.1.0 lined)))))
 
 pub returns : goal.returns
 returns g c h q eh eq kh kq l w =
     let m = model (netlist c.args.described.now.circuit) h q in
     let r1 = runs_of (c.in_ok-lines.ensures.makes l w) in
     let k = c.in_ok-lines.lines in
-    let claim = subst (λ z. MakesClaim (g.S.Store.shows c.make_lines.new.store) Assumption (alone (netlist z)) c.codes.result.now k.numbers.items (Ok c.in_ok-assumed.assumed) (g.S.Store.shows c.make_claim.new.store)) c.in_ok-lines.ensures.circuit c.in_ok-assumed.ensures in
-    let r2 = runs_of (claim h (c.codes.ensures ∙ eh) kh r1.1.0 r1.1.1) in
+    let claim = subst (λ z. MakesClaim (g.S.Store.shows c.make_lines.new.store) Assumption (alone (netlist z)) (used c.args.described.now.assumption) k.numbers.items (Ok c.in_ok-assumed.assumed) (g.S.Store.shows c.make_claim.new.store)) c.in_ok-lines.ensures.circuit c.in_ok-assumed.ensures in
+    let r2 = runs_of (claim h eh kh r1.1.0 r1.1.1) in
     let lined = numbered_kept k.numbers.items (line_fn m) (lines m.circuit) (runs_grown r2.0) r1.1.1 in
-    let promise = subst (λ z. MakesClaim (g.S.Store.shows c.make_claim.new.store) Property (alone (netlist z)) c.codes-2.result.now k.numbers.items (Ok c.in_ok-promised.promised) (g.S.Store.shows c.make_claim-2.new.store)) c.in_ok-lines.ensures.circuit c.in_ok-promised.ensures in
-    let r3 = runs_of (promise q (c.codes-2.ensures ∙ eq) kq r2.1.0 lined) in
+    let promise = subst (λ z. MakesClaim (g.S.Store.shows c.make_claim.new.store) Property (alone (netlist z)) (used c.args.described.now.property) k.numbers.items (Ok c.in_ok-promised.promised) (g.S.Store.shows c.make_claim-2.new.store)) c.in_ok-lines.ensures.circuit c.in_ok-promised.ensures in
+    let r3 = runs_of (promise q eq kq r2.1.0 lined) in
     let g3 = runs_grown r3.0 in
     let g23 = grown_more (runs_grown r2.0) g3 in
     let t = g.S.Store.shows c.make_start-start.new.store in
