@@ -10,6 +10,8 @@ use description::notice::Notice;
 use description::part::Part;
 use store::refusal::Refusal;
 
+// The faults of sessions as well, since `uses`, on which they rest, speaks of all. The three cases of a store are no `Refusal` inside one case,
+// since a refusal for room has a part and a place, and the others have none.
 #[derive(Clone, Copy, PartialEq, Eq, Debug)]
 pub enum Fault {
     // A circuit is loaded already.

@@ -42,6 +42,7 @@ pub fn check_value(a: u16, w: u32, made: usize, variables: u8) -> Result<(), Ref
 }
 
 // Refuses a number that is not held: the constants have the first two, and what was made has the next ones.
+// From a place to its number each make goes by itself: a public function would have to ask that the number fits.
 fn held(a: u16, made: usize) -> Result<(), Refusal>
     ensures { result ≡ allowed (nat_lt a (made + 2)) true }
 {

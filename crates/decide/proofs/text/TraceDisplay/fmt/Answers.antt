@@ -11,7 +11,7 @@ loop-t-init g c p = record { wrote = writes_in_calls_nil _ _; plain = p }
 pub loop-t-preserved : goal.loop-t-preserved
 loop-t-preserved g c p =
     let before = c.loop-t.invariant p in
-    let more = c.write.ensures.writes before.plain (ap is_ok c.in_ok-write.was) in
+    let more = c.writeln.ensures.writes before.plain (ap is_ok c.in_ok-writeln.was) in
     rw add-one (has_written_append g.W.Write.write_str_gives _ _ _ _ _ before more)
 
 pub returns-clause-writes : goal.returns-clause-writes
