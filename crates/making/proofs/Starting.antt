@@ -1,12 +1,11 @@
 -- The first set, whether it meets Init, and the negations that an advance takes.
-use Rattle.std.proofs.Common.{◌≡◌, ℕ, ◌+◌, ◌-◌, ◌*◌, ◌<◌, ◌≤◌, List, [], ◌∷◌, length, get_or, drop, Result, sym, refl, ap, ◌∙◌, subst, arith, length-drop}
+use Rattle.std.proofs.Common.{◌≡◌, ℕ, ◌+◌, ◌-◌, ◌*◌, ◌<◌, ◌≤◌, List, length, get_or, drop, Result, sym, refl, ap, ◌∙◌, subst, arith, length-drop}
 use Rattle.std.proofs.lemmas.List.{length-take, get_or-take, get_or-drop}
 use Rattle.std.specs.List.{slice_range}
 use Rattle.arrayvec.specs.ArrayVec.{ArrayVec}
 use Rattle.store.specs.declared.refusal.Refusal.{Refusal}
 use Rattle.store.specs.Fun.{Fn, bit}
 use Rattle.store.specs.Meaning.{Shown, Lawful, Grown}
-use Rattle.store.specs.Calls.{MakesAnd}
 use Rattle.circuit.specs.Netlists.{lines, next_line, init_line}
 use Rattle.description.specs.declared.part.Part.{Part}
 use Rattle.runs.specs.Functions.{copy, negated, both, first_of, quantified}
@@ -15,12 +14,12 @@ use Rattle.runs.specs.Models.{Model, Valid}
 use Rattle.making.specs.declared.parts.Polarities.{Polarities}
 use Rattle.making.specs.declared.parts.Built.{Built}
 use Rattle.making.specs.Models.{width}
-use Rattle.making.specs.Making.{at, Means, Numbered, Paired}
+use Rattle.making.specs.Making.{Means, Numbered, Paired}
 use Rattle.making.specs.Pieces.{halves_list, negations_list}
 use Rattle.making.specs.Loads.{first_list, start_list, registers_of, Loaded}
-use Rattle.making.specs.Ends.{Ends, plain, Gives}
+use Rattle.making.specs.Ends.{Ends, plain}
 use Rattle.making.specs.Promises.{Negates}
-use Rattle.making.proofs.Steps.{kept, and_answers, gives_last}
+use Rattle.making.proofs.Steps.{kept}
 use Rattle.making.proofs.Placing.{Lies, lies_at, lies_++, lies_upto}
 
 pub lies_start : (p : Part) (l n k : ℕ) (h q init : Fn) (next : ℕ → Fn) → Lies p l (start_list p l n k h q init next)
@@ -38,52 +37,44 @@ nexts_length m ok numbers whole =
     let first = next_line m.circuit 0 in
     omega (arith, length-take (init_line m.circuit - first) (drop first numbers), length-drop first numbers, whole, ok.circuit.enough_gates)
 
-module _ (m : Model) (p : Part) (l : ℕ) (h q : Fn) (s : Shown) where
-  abbrev set_fn : Fn
-  set_fn = first_of m.circuit.registers m.circuit.inputs h q
+-- f 0 to f (n - 1) with their negations
+pub pairs_made : (p : Part) (l : ℕ) {s t u : Shown} (f : ℕ → Fn) (n : ℕ) (ns bs : List ℕ) (r : Result (ArrayVec Polarities) Refusal) → Grown s t → Lawful t → Numbered s ns f n → length ns ≡ n
+    → bs ≡ ns → Negates t bs r u → Ends plain t u (negations_list p l f n) (λ ps. Lawful u × Paired u ps.items f n) r
+pairs_made p l {t = t} {u = u} f n ns bs r g w k whole e y =
+    subst (λ n. Ends plain t u (negations_list p l f n) (λ ps. Lawful u × Paired u ps.items f n) r) whole
+    (subst (λ xs. Negates t xs r u) e y p l f w (λ i lt. kept g (k i (subst (λ n. i < n) whole lt))))
 
-  -- f 0 to f (n - 1) with their negations
-  pub pairs_made : {t u : Shown} (f : ℕ → Fn) (n : ℕ) (ns bs : List ℕ) (r : Result (ArrayVec Polarities) Refusal) → Grown s t → Lawful t → Numbered s ns f n → length ns ≡ n → bs ≡ ns
-      → Negates t bs r u → Ends plain t u (negations_list p l f n) (λ ps. Lawful u × Paired u ps.items f n) r
-  pairs_made {t = t} {u = u} f n ns bs r g w k whole e y =
-      subst (λ n. Ends plain t u (negations_list p l f n) (λ ps. Lawful u × Paired u ps.items f n) r) whole
-      (subst (λ xs. Negates t xs r u) e y p l f w (λ i lt. kept g (k i (subst (λ n. i < n) whole lt))))
+-- the numbers of Init and of the next values are among those of the lines
+module _ {m : Model} {s : Shown} (ok : Valid m) (numbers : List ℕ) (lined : Numbered s numbers (line_fn m) (lines m.circuit)) where
+  pub init_means : (a : ℕ) → a ≡ get_or numbers (init_line m.circuit) 0 → Means s a (init_fn m)
+  init_means a e = subst (λ x. Means s x (init_fn m)) (sym e) (lined (init_line m.circuit) (omega (arith, ok.circuit.enough_gates)))
 
-  module _ (ok : Valid m) (numbers : List ℕ) (lined : Numbered s numbers (line_fn m) (lines m.circuit)) where
-    -- the numbers of Init and of the next values are among those of the lines
-    pub init_means : (a : ℕ) → a ≡ get_or numbers (init_line m.circuit) 0 → Means s a (init_fn m)
-    init_means a e = subst (λ x. Means s x (init_fn m)) (sym e) (lined (init_line m.circuit) (omega (arith, ok.circuit.enough_gates)))
+  pub nexts_mean : Numbered s (slice_range numbers (next_line m.circuit 0) (init_line m.circuit)) (next_fn m) m.circuit.registers
+  nexts_mean i lt =
+      let first = next_line m.circuit 0 in
+      let k = init_line m.circuit - first in
+      let within : i < k = omega (arith, lt, ok.circuit.enough_gates) in
+      let e : first + i ≡ next_line m.circuit i = omega arith in
+      subst (λ x. Means s x (next_fn m i)) (sym (get_or-take k (drop first numbers) i 0 within ∙ get_or-drop first numbers i 0 ∙ ap (λ j. get_or numbers j 0) e))
+      (lined (next_line m.circuit i) (omega (arith, ok.circuit.enough_gates)))
 
-    pub met_made : {t u : Shown} (a b : ℕ) (r : Result ℕ Refusal) → Grown s t → Means t a set_fn → b ≡ get_or numbers (init_line m.circuit) 0 → MakesAnd t a b r u
-        → Gives plain t u (at p l (both set_fn (init_fn m) ∷ [])) (both set_fn (init_fn m)) r
-    met_made a b r g ma e y = gives_last y.lawful r (and_answers y ma (kept g (init_means b e)))
-
-    pub nexts_mean : Numbered s (slice_range numbers (next_line m.circuit 0) (init_line m.circuit)) (next_fn m) m.circuit.registers
-    nexts_mean i lt =
-        let first = next_line m.circuit 0 in
-        let k = init_line m.circuit - first in
-        let within : i < k = omega (arith, lt, ok.circuit.enough_gates) in
-        let e : first + i ≡ next_line m.circuit i = omega arith in
-        subst (λ x. Means s x (next_fn m i)) (sym (get_or-take k (drop first numbers) i 0 within ∙ get_or-drop first numbers i 0 ∙ ap (λ j. get_or numbers j 0) e))
-        (lined (next_line m.circuit i) (omega (arith, ok.circuit.enough_gates)))
-
-  -- the numbers in the end
-  pub loaded : (t : Shown) (b : Built) → registers_of b.parts ≡ m.circuit.registers → b.parts.m ≡ m.circuit.inputs → width m ≤ t.vars → Lawful t
-      → Paired t b.parts.copies.items (λ i. bit (copy i)) m.circuit.registers → Paired t b.parts.nexts.items (next_fn m) m.circuit.registers
-      → Means t b.parts.assumed h → Means t b.parts.property q → Means t b.parts.init (init_fn m)
-      → Means t b.set set_fn → Means t b.met (both set_fn (init_fn m)) → Loaded t m h q b
-  loaded t b en ek w lawful cs ns mh mq mi ms mm = record {
-    lawful = lawful;
-    registers = en;
-    inputs = ek;
-    kept = record {
-      wide = omega arith;
-      copies = subst (λ n. Paired t b.parts.copies.items (λ i. bit (copy i)) n) (sym en) cs;
-      nexts = subst (λ n. Paired t b.parts.nexts.items (next_fn m) n) (sym en) ns;
-      assumed = mh;
-    };
-    property = mq;
-    init = mi;
-    set = ms;
-    met = mm;
-  }
+-- the numbers in the end
+pub loaded : (m : Model) (h q : Fn) (t : Shown) (b : Built) → registers_of b.parts ≡ m.circuit.registers → b.parts.m ≡ m.circuit.inputs → width m ≤ t.vars → Lawful t
+    → Paired t b.parts.copies.items (λ i. bit (copy i)) m.circuit.registers → Paired t b.parts.nexts.items (next_fn m) m.circuit.registers
+    → Means t b.parts.assumed h → Means t b.parts.property q → Means t b.parts.init (init_fn m)
+    → Means t b.set (first_of m.circuit.registers m.circuit.inputs h q) → Means t b.met (both (first_of m.circuit.registers m.circuit.inputs h q) (init_fn m)) → Loaded t m h q b
+loaded m h q t b en ek w lawful cs ns mh mq mi ms mm = record {
+  lawful = lawful;
+  registers = en;
+  inputs = ek;
+  kept = record {
+    wide = omega arith;
+    copies = subst (λ n. Paired t b.parts.copies.items (λ i. bit (copy i)) n) (sym en) cs;
+    nexts = subst (λ n. Paired t b.parts.nexts.items (next_fn m) n) (sym en) ns;
+    assumed = mh;
+  };
+  property = mq;
+  init = mi;
+  set = ms;
+  met = mm;
+}

@@ -31,6 +31,9 @@ post_walks m part (conj p t u) fs k =
 post_walks m part (disj p t u) fs k =
     walks_join (post_walks m part t fs k.0) (walks_join (post_walks m part u (claim_fn m t ∷ fs) k.1) (w_step a_or w_none))
 
+pub going_left : {m : Model} {part : Part} {s t : Shown} {stack : List ℕ} {xs ys : List Code} {all : List Item} {end : List Fn} → xs ≡ ys → Going m part s t stack xs all end → Going m part s t stack ys all end
+going_left {m = m} {part = part} {s = s} {t = t} {stack = stack} {all = all} {end = end} e going = subst (λ xs. Going m part s t stack xs all end) e going
+
 module _ (m : Model) (part : Part) (s : Shown) where
   pub going_start : (xs : List Code) (t : Tree) → xs ≡ post t → Known (sizes m.circuit) t → Lawful s
       → Going m part s s [] xs (operators_list m part t) (claim_fn m t ∷ [])

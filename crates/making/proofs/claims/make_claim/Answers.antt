@@ -1,6 +1,5 @@
-use Rattle.std.proofs.Common.{◌≡◌, suc, List, [], ◌∷◌, length, drop, sym, ap, ◌∙◌, subst, add-one, arith, drop-cons}
+use Rattle.std.proofs.Common.{◌≡◌, [], ◌∷◌, length, drop, sym, ap, ◌∙◌, subst, add-one, arith, drop-cons}
 use lib.Seq.{drop-length}
-use Rattle.store.specs.Fun.{Fn}
 use Rattle.circuit.specs.Netlists.{lines}
 use Rattle.circuit.specs.Reading.{netlist}
 use Rattle.runs.specs.Valuations.{line_fn, claim_fn}
@@ -10,32 +9,26 @@ use Rattle.making.specs.Stacks.{Going}
 use Rattle.making.specs.Ends.{made}
 use Rattle.making.proofs.Steps.{broke, runs_grown}
 use Rattle.making.proofs.Loops.{numbered_kept}
-use Rattle.making.proofs.Walking.{going_start, going_next, going_stop, going_end}
+use Rattle.making.proofs.Walking.{going_left, going_start, going_next, going_stop, going_end}
 use Rattle.making.proofs.claims.make_claim.Goals as goal
 
 pub loop-code-init : goal.loop-code-init
 loop-code-init g c =
     let m = alone (netlist c.args.lines.now.circuit.now) in
-    let s = g.S.Store.shows c.args.store.now in (
+    let s = g.S.Store.shows c.args.store.now in
+    let cs = c.codes-code-items.result.now in (
       omega (arith, ap length c.new-stack.ensures),
       λ t e k l n.
-          subst (λ st. Going m c.args.part s s st c.codes-code-items.result.now (operators_list m c.args.part t) (claim_fn m t ∷ [])) (sym c.new-stack.ensures)
-          (going_start m c.args.part s c.codes-code-items.result.now t e k l),
+          subst (λ st. Going m c.args.part s s st cs (operators_list m c.args.part t) (claim_fn m t ∷ [])) (sym c.new-stack.ensures) (going_start m c.args.part s cs t e k l),
     )
 
 pub returns-in_err-number : goal.returns-in_err-number
 returns-in_err-number g c t e k l n =
-    let i = c.loop-code.code-index in
-    let cs = c.codes-code-items.result.now in
     let m = alone (netlist c.args.lines.now.circuit.now) in
-    let p = c.args.part in
-    let s = g.S.Store.shows c.args.store.now in
-    let all = operators_list m p t in
-    let end : List Fn = claim_fn m t ∷ [] in
     let v = c.loop-code.invariant.1 t (c.codes-code-items.ensures ∙ e) k l n in
-    let v' = subst (λ i. Going m p s (g.S.Store.shows c.loop-code.store) c.loop-code.stack.items i all end) (drop-cons cs i _ c.loop-code-test.true) v in
+    let v' = going_left (drop-cons _ c.loop-code.code-index _ c.loop-code-test.true) v in
     broke c.from_residual.result c.in_err-number.field-0.0 c.from_residual.ensures.1
-    (going_stop m p s _ _ _ c.act_on-made.new.stack.items _ (drop (suc i) cs) all end v' c.act_on-made.result c.place_at.ensures
+    (going_stop m _ _ _ _ _ c.act_on-made.new.stack.items _ _ _ _ v' c.act_on-made.result c.place_at.ensures
     (λ q l fs gs k d a. c.act_on-made.ensures.acts q l fs gs k (numbered_kept c.args.lines.now.numbers.items (line_fn m) (lines m.circuit) (runs_grown v.runs) n) d a)
     c.in_err-number.was)
 
@@ -43,30 +36,19 @@ pub loop-code-preserved : goal.loop-code-preserved
 loop-code-preserved g c = (
   omega (arith, c.push.ensures.len, c.act_on-made.ensures.lower, c.loop-code.invariant.0),
   λ t e k l n.
-      let i = c.loop-code.code-index in
-      let cs = c.codes-code-items.result.now in
       let m = alone (netlist c.args.lines.now.circuit.now) in
-      let p = c.args.part in
-      let s = g.S.Store.shows c.args.store.now in
-      let all = operators_list m p t in
-      let end : List Fn = claim_fn m t ∷ [] in
       let v = c.loop-code.invariant.1 t e k l n in
-      let v' = subst (λ i. Going m p s (g.S.Store.shows c.loop-code.store) c.loop-code.stack.items i all end) (drop-cons cs i _ c.loop-code-test.true) v in
-      subst (λ i. Going m p s (g.S.Store.shows c.act_on-made.new.store) c.push.new.self.items (drop i cs) all end) (sym (add-one i))
-      (going_next m p s _ _ _ c.act_on-made.new.stack.items _ (drop (suc i) cs) all end v' c.act_on-made.result c.place_at.ensures
+      let v' = going_left (drop-cons _ c.loop-code.code-index _ c.loop-code-test.true) v in
+      going_left (ap (λ i. drop i c.codes-code-items.result.now) (sym (add-one c.loop-code.code-index)))
+      (going_next m _ _ _ _ _ c.act_on-made.new.stack.items _ _ _ _ v' c.act_on-made.result c.place_at.ensures
       (λ q l fs gs k d a. c.act_on-made.ensures.acts q l fs gs k (numbered_kept c.args.lines.now.numbers.items (line_fn m) (lines m.circuit) (runs_grown v.runs) n) d a)
       c.in_ok-number.was _ c.push.ensures.items),
 )
 
 pub returns : goal.returns
 returns g c t e k l n =
-    let m = alone (netlist c.args.lines.now.circuit.now) in
-    let p = c.args.part in
-    let s = g.S.Store.shows c.args.store.now in
-    let x = g.S.Store.shows c.loop-code.store in
     let cs = c.codes-code-items.result.now in
-    let all = operators_list m p t in
     let q : c.loop-code.code-index ≡ length cs = omega arith in
-    let v = subst (λ i. Going m p s x c.loop-code.stack.items i all (claim_fn m t ∷ [])) (ap (λ i. drop i cs) q ∙ drop-length cs) (c.loop-code.invariant.1 t (c.codes-code-items.ensures ∙ e) k l n) in
-    let r = going_end m p s x c.loop-code.stack.items c.pop.new.stack.items c.pop.result all (claim_fn m t) v c.pop.ensures.top in
+    let v = going_left (ap (λ i. drop i cs) q ∙ drop-length cs) (c.loop-code.invariant.1 t (c.codes-code-items.ensures ∙ e) k l n) in
+    let r = going_end _ _ _ _ _ _ _ _ _ v c.pop.ensures.top in
     made r.0 r.1

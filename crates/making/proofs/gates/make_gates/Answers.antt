@@ -3,10 +3,7 @@ use Rattle.std.proofs.lemmas.List.{get_or_default}
 use Rattle.circuit.specs.Netlists.{gate, gate_line}
 use Rattle.circuit.specs.Reading.{netlist}
 use Rattle.description.specs.declared.part.Part.TheVariants.{Circuit}
-use Rattle.runs.specs.Valuations.{line_fn}
 use Rattle.making.specs.Models.{alone}
-use Rattle.making.specs.Making.{at}
-use Rattle.making.specs.Pieces.{gate_list}
 use Rattle.making.specs.Ends.{made}
 use Rattle.making.proofs.Steps.{broke, ends_after}
 use Rattle.making.proofs.Loops.{ends_upto}
@@ -31,33 +28,25 @@ push-requires g c =
 
 pub returns-in_err-number-clause-gates : goal.returns-in_err-number-clause-gates
 returns-in_err-number-clause-gates g c h =
-    let n = netlist c.args.circuit.now in
-    let m = alone n in
-    let ok = valid_alone n c.args.circuit.now.sound in
     let k = c.loop-g.g in
-    let lt : k < length n.gates = omega (arith, c.loop-g-test.true, ap length c.gates-gate-items.ensures) in
-    let s = g.S.Store.shows c.args.store.now in
+    let lt : k < length (netlist c.args.circuit.now).gates = omega (arith, c.loop-g-test.true, ap length c.gates-gate-items.ensures) in
     let r = c.loop-g.invariant.1 h in
-    let e : c.gate-item.result ≡ gate n k = search (rules, get_or_default) in
-    let q = gate_ends m s ok _ _ c.loop-g.numbers.items k lt r _ c.conjunction-made.result e _ c.deref.ensures.0 c.conjunction-made.ensures in
+    let e : c.gate-item.result ≡ gate (netlist c.args.circuit.now) k = search (rules, get_or_default) in
+    let q = gate_ends _ _ (valid_alone _ c.args.circuit.now.sound) _ _ _ k lt r _ c.conjunction-made.result e _ c.deref.ensures.0 c.conjunction-made.ensures in
     broke c.from_residual.result c.in_err-number.field-0.0 c.from_residual.ensures.1
-    (ends_upto (λ i. at Circuit i (gate_list (line_fn m) (gate n i))) (suc k) (length n.gates) lt
-    (ends_after r.0 (placed_err Circuit k c.conjunction-made.result c.place_at.ensures (lies_at Circuit k _) q c.in_err-number.was)))
+    (ends_upto _ (suc k) _ lt (ends_after r.0 (placed_err Circuit k c.conjunction-made.result c.place_at.ensures (lies_at Circuit k _) q c.in_err-number.was)))
 
 pub loop-g-preserved : goal.loop-g-preserved
 loop-g-preserved g c = (
   c.push.ensures.len ∙ ap (λ i. i + 1) c.loop-g.invariant.0 ∙ omega arith,
   λ h.
-      let n = netlist c.args.circuit.now in
-      let m = alone n in
-      let ok = valid_alone n c.args.circuit.now.sound in
+      let ok = valid_alone _ c.args.circuit.now.sound in
       let k = c.loop-g.g in
-      let lt : k < length n.gates = omega (arith, c.loop-g-test.true, ap length c.gates-gate-items.ensures) in
-      let s = g.S.Store.shows c.args.store.now in
+      let lt : k < length (netlist c.args.circuit.now).gates = omega (arith, c.loop-g-test.true, ap length c.gates-gate-items.ensures) in
       let r = c.loop-g.invariant.1 h in
-      let e : c.gate-item.result ≡ gate n k = search (rules, get_or_default) in
-      let q = gate_ends m s ok _ _ c.loop-g.numbers.items k lt r _ c.conjunction-made.result e _ c.deref.ensures.0 c.conjunction-made.ensures in
-      gate_more m s ok _ _ c.loop-g.numbers.items k lt r c.in_ok-number.number (placed_ok Circuit k c.conjunction-made.result c.place_at.ensures (lies_at Circuit k _) q c.in_ok-number.was) c.loop-g.invariant.0 c.push.new.self.items c.push.ensures.items,
+      let e : c.gate-item.result ≡ gate (netlist c.args.circuit.now) k = search (rules, get_or_default) in
+      let q = gate_ends _ _ ok _ _ _ k lt r _ c.conjunction-made.result e _ c.deref.ensures.0 c.conjunction-made.ensures in
+      gate_more _ _ ok _ _ _ k lt r c.in_ok-number.number (placed_ok Circuit k c.conjunction-made.result c.place_at.ensures (lies_at Circuit k _) q c.in_ok-number.was) c.loop-g.invariant.0 c.push.new.self.items c.push.ensures.items,
 )
 
 pub returns : goal.returns

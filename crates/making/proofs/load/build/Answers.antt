@@ -1,4 +1,4 @@
-use Rattle.std.proofs.Common.{◌≤◌, length, Ok, Err, sym, ap, ◌∙◌, subst, append_assoc, arith}
+use Rattle.std.proofs.Common.{◌≤◌, length, Ok, Err, sym, subst, append_assoc}
 use Rattle.store.specs.Fun.{bit}
 use Rattle.circuit.specs.Netlists.{lines}
 use Rattle.circuit.specs.Reading.{netlist}
