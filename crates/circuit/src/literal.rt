@@ -25,14 +25,16 @@ impl Model for Literal {
         λ i. record { number = e i } };
 }
 
-impl Literal {
-    // From its number in a file: 2x is line x, and 2x + 1 is its negation.
-    pub(crate) fn read(number: u16) -> Literal
-        ensures { result ≡ literal_of number }
-    {
+// From its number in a file: 2x is line x, and 2x + 1 is its negation. By hand, since a clause says which it is (`from_gives`).
+impl From<u16> for Literal {
+    ghost from_gives = { λ number l. l ≡ literal_of number };
+
+    fn from(number: u16) -> Literal {
         Literal { number }
     }
+}
 
+impl Literal {
     pub fn line(self) -> u16
         ensures { result ≡ self.line }
     {

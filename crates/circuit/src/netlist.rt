@@ -39,8 +39,8 @@ impl Netlist {
     {
         let count = sizes.gates;
         let read = (0..count).map(|g| Gate {
-            left: Literal::read(number_at(file, 3 + g)),
-            right: Literal::read(number_at(file, 3 + count + g)),
+            left: Literal::from(number_at(file, 3 + g)),
+            right: Literal::from(number_at(file, 3 + count + g)),
         });
         let mut gates = ArrayVec::new();
         gates.extend(read).unwrap();

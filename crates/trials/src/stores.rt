@@ -53,7 +53,13 @@ fn make<S: Store>(store: &mut S, seed: u32, made: &[u16]) -> Result<u16, Refusal
         or,
         cofactor,
     ];
-    store.answer(tasks[seed as usize / 65536 % tasks.len()])
+    match tasks[seed as usize / 65536 % tasks.len()] {
+        Task::Variable(i) => store.variable(i),
+        Task::Not(a) => store.not(a),
+        Task::Both(Op::And, a, b) => store.and(a, b),
+        Task::Both(Op::Or, a, b) => store.or(a, b),
+        Task::Cofactor(a, i, t) => store.cofactor(a, i, t),
+    }
 }
 
 // The truths of all that is made, step after step.
@@ -81,8 +87,12 @@ fn makes_agree(rt: HostRuntime) -> Result<(), Fail> {
     let mut nodes = [Node::default(); 300];
     let mut tables = [Truths::default(); 100];
     let mut links = [7; 300];
-    let told = driven(&mut Diagram::new(4, &mut nodes, &mut links), heap)?;
+    let told = driven(Diagram::new(4, &mut nodes, &mut links), heap)?;
     assert_eq!(rt; told.get(2).copied(), Some(0xf0f0));
+    assert_eq!(rt;
+        driven(&mut Diagram::new(4, &mut nodes, &mut links), heap)?,
+        told
+    );
     assert_eq!(rt; driven(Table::new(4, &mut tables, &mut links), heap)?, told);
     assert_eq!(rt;
         driven(layer(Diagram::new(4, &mut nodes, &mut links[0..20])), heap)?,
