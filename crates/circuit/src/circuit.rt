@@ -1,10 +1,11 @@
 ghost use Rattle.std.specs.Prelude.{◌≡◌, length};
-ghost use Rattle.circuit.specs.Netlists.{sizes};
+ghost use Rattle.circuit.specs.Netlists.{sizes, name_line};
 ghost use Rattle.circuit.specs.Rules.{Sound};
 
 use super::gate::Gate;
 use super::netlist::Netlist;
 use super::sizes::Sizes;
+use super::sort::Sort;
 
 // A netlist that passed every check of its file.
 #[derive(Drop)]
@@ -42,6 +43,13 @@ impl Circuit {
         ensures { result ≡ length (netlist self.now).gates }
     {
         self.netlist.gates.len() as u16
+    }
+
+    // The line of register i, of input i or of gate i, of which there need be none.
+    pub fn line(&self, sort: Sort, i: u16) -> usize
+        ensures { result ≡ name_line (netlist self.now) sort i }
+    {
+        self.netlist.line(sort, i)
     }
 
     pub fn gates(&self) -> &[Gate]

@@ -3,7 +3,7 @@ ghost use Rattle.std.specs.Prelude.{◌≡◌, ℕ, ◌+◌, ◌<◌, Ok, Err, l
 ghost use Rattle.circuit.specs.declared.refusal.Refusal.TheVariants.{Wire};
 ghost use Rattle.circuit.specs.Files.{says};
 ghost use Rattle.circuit.specs.Lines.{touching};
-ghost use Rattle.circuit.specs.Netlists.{sizes, gate_line, init_line};
+ghost use Rattle.circuit.specs.Netlists.{sizes, name_line, init_line};
 ghost use Rattle.circuit.specs.Rules.{Wired, Sound, first_miswired, checking};
 ghost use Rattle.circuit.specs.Steps.{InRange, Sized};
 
@@ -11,6 +11,7 @@ use super::gate::Gate;
 use super::literal::Literal;
 use super::refusal::Refusal;
 use super::sizes::Sizes;
+use super::sort::Sort;
 use super::{MOST_GATES, MOST_LINES, number_at};
 use arrayvec::ArrayVec;
 use std::marker::Model;
@@ -63,15 +64,18 @@ impl Netlist {
         Ok(())
     }
 
-    fn gate_line(&self, g: u16) -> usize
-        ensures { result ≡ gate_line self.now g }
+    // The line of register i, of input i or of gate i. False is line 0.
+    pub(crate) fn line(&self, sort: Sort, i: u16) -> usize
+        ensures { result ≡ name_line self.now sort i }
     {
-        let Netlist {
-            registers,
-            inputs,
-            ..
-        } = self;
-        1 + usize::from(*registers) + usize::from(*inputs) + usize::from(g)
+        let registers = usize::from(self.registers);
+        let inputs = usize::from(self.inputs);
+        let before = match sort {
+            Sort::Register => 1,
+            Sort::Input => 1 + registers,
+            Sort::Gate => 1 + registers + inputs,
+        };
+        before + usize::from(i)
     }
 
     // Refuses the first gate that names its own line or a later one.
@@ -79,7 +83,7 @@ impl Netlist {
         ensures { MatchResult result (λ _. (g : ℕ) → g < length self.now.gates → Wired self.now g) (λ e. (first_miswired self.now < length self.now.gates) × (e ≡ Wire (first_miswired self.now))) }
     {
         for (g, gate) in self.gates.as_slice().iter().enumerate() {
-            if !gate.names_below(self.gate_line(g as u16)) {
+            if !gate.names_below(self.line(Sort::Gate, g as u16)) {
                 return Err(Refusal::Wire(g as u16));
             }
         }
@@ -92,10 +96,10 @@ impl Netlist {
         ensures { result ≡ touching self.now (init_line self.now) }
     {
         let mut marks = ArrayVec::<bool, MOST_LINES>::new();
-        // Pushes, of the lines before the gates as well: the mark of a gate is read from those before it.
-        for line in 0..self.gate_line(0) {
+        for line in 0..self.line(Sort::Gate, 0) {
             marks.push(line > usize::from(self.registers));
         }
+        // Pushes, since the mark of a gate is read from those before it.
         for gate in self.gates.as_slice() {
             let touches = gate.names_marked(marks.as_slice());
             marks.push(touches);

@@ -13,7 +13,8 @@ use Rattle.claim.specs.declared.lexer.Token.TheVariants.{End}
 use Rattle.claim.specs.declared.reader.Reader.{Reader}
 use Rattle.claim.specs.Tokens.{bang, amp, bar, lparen, rparen, name, end, Tok, tok, tokens}
 use Rattle.claim.specs.Seen.{kind_of, left}
-use Rattle.claim.specs.Grammar.{Level, claim, Tree, Derives, one_term, more_terms, one_factor, more_factors, a_not, in_parens, a_constant, a_name, Says, a_text, value, post, limit, weight, operators, Known}
+use Rattle.circuit.specs.Netlists.{limit}
+use Rattle.claim.specs.Grammar.{Level, claim, Tree, Derives, one_term, more_terms, one_factor, more_factors, a_not, in_parens, a_constant, a_name, Says, a_text, value, post, weight, operators, Known}
 use Rattle.claim.specs.Faults.{no_such, Fails, Read, Refused, at_fault}
 use Rattle.claim.specs.Machine.{want, have, over, scan}
 use Rattle.claim.specs.Reading.{ahead, Begun, Reach, Sofar, Taken, Stopped}

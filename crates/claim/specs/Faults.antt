@@ -5,7 +5,8 @@ use Rattle.circuit.specs.declared.sizes.Sizes.{Sizes}
 use Rattle.claim.specs.declared.fault.Fault.{Fault}
 use Rattle.claim.specs.declared.fault.Fault.TheVariants.{Claim, Name, Deep}
 use Rattle.claim.specs.Tokens.{Kind, bang, amp, bar, lparen, name, Tok, tok, tokens}
-use Rattle.claim.specs.Grammar.{factor, Tree, Derives, Says, value, limit}
+use Rattle.circuit.specs.Netlists.{limit}
+use Rattle.claim.specs.Grammar.{factor, Tree, Derives, Says, value}
 
 abbrev pub number_of : Fault → ℕ
 number_of (Claim p) = 7

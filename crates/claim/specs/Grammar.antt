@@ -1,11 +1,11 @@
 -- The grammar of claims, over tokens with their places.
 use Rattle.std.specs.Prelude.{ℕ, ◌+◌, ◌-◌, ◌*◌, ◌<◌, Bool, List, [], ◌∷◌, ◌++◌}
 use Rattle.circuit.specs.declared.sort.Sort.{Sort}
-use Rattle.circuit.specs.declared.sort.Sort.TheVariants.{Register, Input, Gate}
 use Rattle.claim.specs.declared.code.Act.{Act}
 use Rattle.claim.specs.declared.code.Act.TheVariants.{Constant, Name, Not, And, Or}
 use Rattle.claim.specs.declared.code.Code.{Code}
 use Rattle.circuit.specs.declared.sizes.Sizes.{Sizes}
+use Rattle.circuit.specs.Netlists.{limit}
 use Rattle.claim.specs.Tokens.{bang, amp, bar, lparen, rparen, constant, name, end, Tok, tok}
 
 pub data Level : Type 0 where
@@ -66,11 +66,6 @@ weight Or = 1
 abbrev pub operators : List Code → ℕ
 operators [] = 0
 operators (c ∷ cs) = weight c.act + operators cs
-
-abbrev pub limit : Sizes → Sort → ℕ
-limit z Register = z.registers
-limit z Input = z.inputs
-limit z Gate = z.gates
 
 -- there is what each name names
 abbrev pub Known : Sizes → Tree → Type 0

@@ -4,7 +4,8 @@ use Rattle.circuit.specs.declared.sizes.Sizes.{Sizes}
 use Rattle.claim.specs.declared.fault.Fault.{Fault}
 use Rattle.claim.specs.declared.fault.Fault.TheVariants.{Claim, Name, Deep}
 use Rattle.claim.specs.Tokens.{Kind, bang, amp, bar, lparen, rparen, constant, name, wrong, end, Tok}
-use Rattle.claim.specs.Grammar.{value, limit}
+use Rattle.circuit.specs.Netlists.{limit}
+use Rattle.claim.specs.Grammar.{value}
 
 pub data State : Type 0 where
   -- a factor comes next, after n `!`; for each `(` that is open, how many `!` stand before it

@@ -5,7 +5,7 @@ ghost use Rattle.claim.specs.declared.reader.TheConstants.{DEEPEST};
 ghost use Rattle.claim.specs.declared.lexer.Token.TheVariants.{Close, End};
 ghost use Rattle.claim.specs.Tokens.{tok, rparen, name};
 ghost use Rattle.claim.specs.Seen.{kind_of, Placed, Numeral};
-ghost use Rattle.claim.specs.Grammar.{claim, term, factor, value, code, limit};
+ghost use Rattle.claim.specs.Grammar.{claim, term, factor, value, code};
 
 use crate::LONGEST;
 use crate::code::*;
@@ -108,24 +108,11 @@ impl<'a> Reader<'a> {
         self.write(act, place);
     }
 
-    // How many there are of a sort.
-    fn limit(&self, sort: Sort) -> u16
-        ensures { result ≡ limit self.now.sizes sort }
-    {
-        match sort {
-            Sort::Register => self.sizes.registers,
-            Sort::Input => self.sizes.inputs,
-            Sort::Gate => self.sizes.gates,
-        }
-    }
-
     fn name(&mut self, sort: Sort, digits: &[u8]) -> Result<(), Fault>
         requires { kind_of self.old.ahead.token ≡ name sort digits.now }
         ensures { (d : ℕ) → MatchResult result (λ _. Taken factor d self.old self.new) (λ f. Stopped factor d self.old self.new f) }
     {
-        let Some(n) = number_below(digits, self.limit(sort)) else {
-            return Err(Fault::Name(self.ahead.place));
-        };
+        let n = number_below(digits, self.sizes.of(sort)).ok_or(Fault::Name(self.ahead.place))?;
         self.atom(Act::Name(sort, n));
         Ok(())
     }

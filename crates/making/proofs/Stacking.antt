@@ -6,14 +6,14 @@ use Rattle.store.specs.declared.refusal.Refusal.{Refusal}
 use Rattle.store.specs.Fun.{Fn}
 use Rattle.store.specs.Meaning.{Shown, Lawful, Grown}
 use Rattle.store.specs.Calls.{Answers, Reply}
-use Rattle.circuit.specs.Netlists.{Netlist, lines}
+use Rattle.circuit.specs.Netlists.{Netlist, lines, limit, name_line}
 use Rattle.circuit.specs.declared.sort.Sort.{Sort}
 use Rattle.circuit.specs.declared.sort.Sort.TheVariants.{Register, Input, Gate}
 use Rattle.claim.specs.declared.code.Act.TheVariants.{Constant, Name, Not, And, Or}
-use Rattle.claim.specs.Grammar.{named, limit}
+use Rattle.claim.specs.Grammar.{named}
 use Rattle.description.specs.declared.part.Part.{Part}
 use Rattle.runs.specs.Functions.{negated, both, either}
-use Rattle.runs.specs.Valuations.{name_line, line_fn, claim_fn}
+use Rattle.runs.specs.Valuations.{line_fn, claim_fn}
 use Rattle.runs.specs.Models.{Model, sizes, Valid}
 use Rattle.runs.proofs.Models.{functions_exact}
 use Rattle.making.specs.Making.{at, ended, Means, Numbered}

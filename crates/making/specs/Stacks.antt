@@ -6,7 +6,8 @@ use Rattle.circuit.specs.declared.sort.Sort.{Sort}
 use Rattle.claim.specs.declared.code.Act.{Act}
 use Rattle.claim.specs.declared.code.Act.TheVariants.{Constant, Name, Not, And, Or}
 use Rattle.claim.specs.declared.code.Code.{Code}
-use Rattle.claim.specs.Grammar.{named, limit}
+use Rattle.circuit.specs.Netlists.{limit}
+use Rattle.claim.specs.Grammar.{named}
 use Rattle.description.specs.declared.part.Part.{Part}
 use Rattle.runs.specs.Functions.{negated, both, either}
 use Rattle.runs.specs.Valuations.{claim_fn}

@@ -1,8 +1,7 @@
 // A circuit's lines in a store.
 ghost use Rattle.std.specs.Prelude.{◌≡◌, length, slice_index, slice_range};
-ghost use Rattle.circuit.specs.Netlists.{lines, next_line, init_line};
+ghost use Rattle.circuit.specs.Netlists.{lines, name_line, next_line, init_line};
 ghost use Rattle.circuit.specs.Reading.{netlist};
-ghost use Rattle.runs.specs.Valuations.{name_line};
 
 use crate::FALSE;
 use arrayvec::ArrayVec;
@@ -28,17 +27,8 @@ impl Lines<'_> {
     pub(crate) fn named(&self, sort: Sort, i: u16) -> u16
         ensures { result ≡ slice_index self.now.numbers.items (name_line (netlist self.now.circuit.now) sort i) }
     {
-        let registers = usize::from(self.circuit.registers());
-        let inputs = usize::from(self.circuit.inputs());
-        let before = match sort {
-            Sort::Register => 1,
-            Sort::Input => 1 + registers,
-            Sort::Gate => 1 + registers + inputs,
-        };
-        self.numbers
-            .get(before + usize::from(i))
-            .copied()
-            .unwrap_or(FALSE)
+        let line = self.circuit.line(sort, i);
+        self.numbers.get(line).copied().unwrap_or(FALSE)
     }
 
     // The number of Init, the last line.

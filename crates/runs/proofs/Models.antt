@@ -4,14 +4,14 @@ use Rattle.std.specs.List.{range_with_len}
 use Rattle.std.proofs.lemmas.List.FromFn.{fill_by_all, get_or-map-range_with_len, length-map-range_with_len}
 use Rattle.store.specs.Fun.{Fn, bit}
 use Rattle.circuit.specs.Literals.{Literal}
-use Rattle.circuit.specs.Netlists.{Netlist, gate, gate_line, lines, next_line, init_line}
+use Rattle.circuit.specs.Netlists.{Netlist, gate, gate_line, lines, next_line, init_line, limit, name_line}
 use Rattle.circuit.specs.Lines.{literal, conjunction, Values, line, extended}
 use Rattle.circuit.specs.Rules.{Determined}
 use Rattle.circuit.proofs.Lines.{determined}
 use Rattle.circuit.specs.declared.sizes.Sizes.{Sizes}
 use Rattle.circuit.specs.declared.sort.Sort.{Sort}
 use Rattle.circuit.specs.declared.sort.Sort.TheVariants.{Register, Input, Gate}
-use Rattle.claim.specs.Grammar.{Tree, const, named, neg, conj, disj, limit, Known}
+use Rattle.claim.specs.Grammar.{Tree, const, named, neg, conj, disj, Known}
 use Rattle.claim.specs.Truth.{fold, truth}
 use Rattle.runs.specs.Numbers.{bits}
 use Rattle.runs.specs.Systems.{Closed}
@@ -19,7 +19,7 @@ use Rattle.runs.specs.Search.{bad}
 use Rattle.runs.specs.Functions.{spread, negated}
 use Rattle.runs.specs.Steps.{state_at, input_at, Stands}
 use Rattle.runs.specs.Models.{Model, name_value, claimed, system, sizes, Valid, DescriptionsValid, Agrees, SystemsAgree}
-use Rattle.runs.specs.Valuations.{registers_at, inputs_at, literal_fn, name_line, line_fn, claim_fn, claim_ops, next_fn, init_fn, Lined, Stepped, At, FunctionsExact}
+use Rattle.runs.specs.Valuations.{registers_at, inputs_at, literal_fn, line_fn, claim_fn, claim_ops, next_fn, init_fn, Lined, Stepped, At, FunctionsExact}
 use Rattle.runs.proofs.Numbers.{number_lt, bit_number, spreads}
 use Rattle.runs.proofs.Steps.{steps_back, sets_same}
 use Rattle.circuit.proofs.Passing.{reading_sound}

@@ -2,10 +2,8 @@
 use Rattle.std.specs.Prelude.{◌≡◌, ℕ, suc, ◌+◌, ◌*◌, ◌^◌, ◌<◌, ◌≤◌, Bool, false, cond, not, length, Decides}
 use Rattle.store.specs.Fun.{Fn, bit, Same, same}
 use Rattle.circuit.specs.Literals.{Literal}
-use Rattle.circuit.specs.Netlists.{Netlist, gate, register_line, input_line, gate_line, next_line, init_line}
+use Rattle.circuit.specs.Netlists.{gate, register_line, input_line, gate_line, name_line, next_line, init_line}
 use Rattle.circuit.specs.Lines.{line}
-use Rattle.circuit.specs.declared.sort.Sort.{Sort}
-use Rattle.circuit.specs.declared.sort.Sort.TheVariants.{Register, Input, Gate}
 use Rattle.claim.specs.Grammar.{Tree, Known}
 use Rattle.claim.specs.Truth.{Ops, fold}
 use Rattle.runs.specs.Systems.{Closed}
@@ -24,12 +22,6 @@ inputs_at n w j = bit (input n j) w
 -- a literal of lines that are these functions
 abbrev pub literal_fn : (ℕ → Fn) → Literal → Fn
 literal_fn lines x = cond x.negated (negated (lines x.line)) (lines x.line)
-
--- the line of a name
-abbrev pub name_line : Netlist → Sort → ℕ → ℕ
-name_line c Register i = register_line i
-name_line c Input j = input_line c j
-name_line c Gate g = gate_line c g
 
 module _ (m : Model) where
   abbrev pub line_fn : ℕ → Fn
