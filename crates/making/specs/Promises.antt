@@ -42,11 +42,11 @@ ComposesAll s a first bs r t = (p : Part) (l : ℕ) (x : ℕ → ℕ) (f : Fn) (
     → Means s a f → Paired s bs g (length bs) → ((i : ℕ) → i < length bs → x i < s.vars)
     → Gives plain s t (composed_all_list p l x g f (length bs)) (composed_all x g f (length bs)) r
 
-abbrev pub Halves : Shown → ℕ → ℕ → Result ℕ Refusal → Shown → Type 0
-Halves s a x r t = (p : Part) (l : ℕ) (f : Fn) → Means s a f → x < s.vars → Gives plain s t (at p l (halves_list x f)) (either (fix x false f) (fix x true f)) r
+abbrev pub Exists : Shown → ℕ → ℕ → Result ℕ Refusal → Shown → Type 0
+Exists s a x r t = (p : Part) (l : ℕ) (f : Fn) → Means s a f → x < s.vars → Gives plain s t (at p l (halves_list x f)) (either (fix x false f) (fix x true f)) r
 
-abbrev pub Quantifies : Shown → ℕ → ℕ → ℕ → Result ℕ Refusal → Shown → Type 0
-Quantifies s a x m r t = (p : Part) (l : ℕ) (f : Fn) → Means s a f → x + m ≤ s.vars → Gives plain s t (quantified_list p l x f m) (quantified x f m) r
+abbrev pub ExistsAll : Shown → ℕ → ℕ → ℕ → Result ℕ Refusal → Shown → Type 0
+ExistsAll s a x m r t = (p : Part) (l : ℕ) (f : Fn) → Means s a f → x + m ≤ s.vars → Gives plain s t (quantified_list p l x f m) (quantified x f m) r
 
 -- each of the functions with its negation
 abbrev pub Negates : Shown → List ℕ → Result (ArrayVec Polarities) Refusal → Shown → Type 0

@@ -3,7 +3,7 @@ ghost use Rattle.circuit.specs.Reading.{netlist};
 ghost use Rattle.making.specs.Models.{alone};
 ghost use Rattle.making.specs.Promises.{MakesFirst, MakesStart};
 
-use crate::inputs::quantify;
+use crate::inputs::exists_all;
 use crate::lines::Lines;
 use crate::negations::with_negations;
 use crate::parts::{Built, Parts};
@@ -24,7 +24,7 @@ fn first_set<S: Store>(
     let broken = store.not(property)?;
     let allowed = store.and(broken, assumed)?;
     let first = first_input(circuit.registers());
-    quantify(store, allowed, first, circuit.inputs())
+    exists_all(store, allowed, first, circuit.inputs())
 }
 
 // The two claims are two parameters: a struct of them would be taken apart here, since those who read `Parts` take each by itself.

@@ -3,21 +3,21 @@ ghost use Rattle.std.specs.Prelude.{OnOk};
 ghost use Rattle.store.specs.Meaning.{Lawful};
 ghost use Rattle.making.specs.Promises.{StepsBack};
 
-use crate::inputs::quantify;
+use crate::inputs::exists_all;
 use crate::parts::Parts;
 use crate::substitution::compose_all;
-use crate::variables::first_input;
+use crate::variables::{FIRST_COPY, FIRST_REGISTER, first_input};
 use store::Store;
 use store::refusal::Refusal;
 
-// All of an advance's list but the call with Init.
+// The states from which a permitted step leads into the set, or that are in it. All of an advance's list but the call with Init.
 pub fn back<S: Store>(store: &mut S, from: u16, parts: &Parts) -> Result<u16, Refusal>
     ensures lawful { OnOk result (Lawful (S.Store.shows store.new)) }
     ensures gives { StepsBack (S.Store.shows store.old) from parts.now result (S.Store.shows store.new) }
 {
-    let copied = compose_all(store, from, 0, &parts.copies)?;
-    let led = compose_all(store, copied, 1, &parts.nexts)?;
+    let copied = compose_all(store, from, FIRST_REGISTER, &parts.copies)?;
+    let led = compose_all(store, copied, FIRST_COPY, &parts.nexts)?;
     let allowed = store.and(led, parts.assumed)?;
-    let some = quantify(store, allowed, first_input(parts.registers()), parts.m)?;
+    let some = exists_all(store, allowed, first_input(parts.registers()), parts.m)?;
     store.or(some, from)
 }

@@ -12,6 +12,11 @@ use circuit::circuit::Circuit;
 use store::Store;
 use store::refusal::Refusal;
 
+// The variables of the first register and of its copy: register i has 2i, and its copy 2i + 1.
+pub(crate) const FIRST_REGISTER: u8 = 0;
+
+pub(crate) const FIRST_COPY: u8 = 1;
+
 // The variable of the first input: before it, each register and its copy have one.
 pub(crate) fn first_input(registers: u8) -> u8
     requires { registers ≤ MOST_REGISTERS }

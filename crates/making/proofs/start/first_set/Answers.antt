@@ -1,7 +1,7 @@
 use Rattle.std.proofs.Common.{◌≡◌, ◌+◌, ◌*◌, ◌≤◌, sym, ap, ◌∙◌, subst, arith}
 use Rattle.circuit.specs.Reading.{netlist}
 use Rattle.runs.specs.Functions.{negated, both}
-use Rattle.making.specs.Promises.{Quantifies}
+use Rattle.making.specs.Promises.{ExistsAll}
 use Rattle.making.proofs.Circuits.{sound_out}
 use Rattle.making.proofs.Steps.{kept, fresh, grown_more, not_answers, and_answers, ends_here, ends_later, broke}
 use Rattle.making.proofs.start.first_set.Goals as goal
@@ -22,8 +22,8 @@ pub first_input-first-requires : goal.first_input-first-requires
 first_input-first-requires g c =
     omega (arith, c.registers.ensures, (sound_out (netlist c.args.circuit.now) c.args.circuit.now.sound).few_registers)
 
-pub quantify-requires : goal.quantify-requires
-quantify-requires g c =
+pub exists_all-requires : goal.exists_all-requires
+exists_all-requires g c =
     let d = sound_out (netlist c.args.circuit.now) c.args.circuit.now.sound in
     omega (arith, c.first_input-first.ensures, c.registers.ensures, c.inputs.ensures, d.few_registers, d.few_inputs)
 
@@ -33,10 +33,10 @@ returns g c p l h q w mh mq =
     let m1 = not_answers c.in_ok-broken.ensures mq in
     let m2 = and_answers c.in_ok-allowed.ensures (fresh m1) (kept m1.grown mh) in
     let s = g.S.Store.shows c.and.new.self in
-    let t = g.S.Store.shows c.quantify.new.store in
+    let t = g.S.Store.shows c.exists_all.new.store in
     let first : c.first_input-first.result ≡ 2 * n.registers = c.first_input-first.ensures ∙ ap (λ r. 2 * r) c.registers.ensures in
-    let y = subst (λ x. Quantifies s c.in_ok-allowed.allowed x n.inputs c.quantify.result t) first
-    (subst (λ k. Quantifies s c.in_ok-allowed.allowed c.first_input-first.result k c.quantify.result t) c.inputs.ensures c.quantify.ensures) in
+    let y = subst (λ x. ExistsAll s c.in_ok-allowed.allowed x n.inputs c.exists_all.result t) first
+    (subst (λ k. ExistsAll s c.in_ok-allowed.allowed c.first_input-first.result k c.exists_all.result t) c.inputs.ensures c.exists_all.ensures) in
     ends_later c.in_ok-broken.ensures.lawful m1
     (ends_later c.in_ok-allowed.ensures.lawful m2
     (y p l (both (negated q) h) (fresh m2) (subst (λ k. 2 * n.registers + n.inputs ≤ k) (sym (grown_more m1.grown m2.grown).vars) w)))

@@ -4,7 +4,7 @@ use Rattle.description.specs.declared.part.Part.{Part}
 use Rattle.runs.specs.Functions.{quantified}
 use Rattle.making.specs.Making.{Runs, Means}
 use Rattle.making.specs.Pieces.{quantified_list}
-use Rattle.making.proofs.inputs.quantify.Given as goal
+use Rattle.making.proofs.inputs.exists_all.Given as goal
 
 abbrev pub invariant-loop-x : goal.invariant-loop-x
 invariant-loop-x g l = (p : Part) (q : ℕ) (f : Fn)

@@ -1,5 +1,5 @@
 use Rattle.making.proofs.Steps.{or_answers, runs_of, ends_after, ends_before, gives_last, broke}
-use Rattle.making.proofs.inputs.halves.Goals as goal
+use Rattle.making.proofs.inputs.exists.Goals as goal
 
 pub returns-in_err-low : goal.returns-in_err-low
 returns-in_err-low g c p l f ma li =

@@ -7,18 +7,18 @@ use Rattle.runs.specs.Functions.{quantified}
 use Rattle.making.specs.Making.{Runs, ended, Means, at}
 use Rattle.making.specs.Pieces.{halves_list, quantified_list}
 use Rattle.making.specs.Ends.{Ends, made, plain}
-use Rattle.making.specs.Promises.{Halves}
+use Rattle.making.specs.Promises.{Exists}
 use Rattle.making.proofs.Steps.{runs_grown, runs_of, broke, ends_after}
 use Rattle.making.proofs.Loops.{ends_upto}
-use Rattle.making.proofs.inputs.quantify.Goals as goal
+use Rattle.making.proofs.inputs.exists_all.Goals as goal
 
 -- variable x is given both values in turn k
 turn : {s t u : Shown} (p : Part) (q first : ℕ) (f : Fn) (x k a : ℕ) → first + k ≡ x → x < s.vars
-    → Runs s (quantified_list p q first f k) t × Means t a (quantified first f k) → (r : Result ℕ Refusal) → Halves t a x r u
+    → Runs s (quantified_list p q first f k) t × Means t a (quantified first f k) → (r : Result ℕ Refusal) → Exists t a x r u
     → Ends plain s u (quantified_list p q first f (suc k)) (λ b. Means u b (quantified first f (suc k))) r
 turn {s = s} {t = t} {u = u} p q first f x k a e l so r y =
     let w = runs_grown so.0 in
-    let y' = subst (λ i. Halves t a i r u) (sym e) y in
+    let y' = subst (λ i. Exists t a i r u) (sym e) y in
     let in-range = subst (λ n. first + k < n) (sym w.vars) (subst (λ i. i < s.vars) (sym e) l) in
     ends_after so.0 (y' p q (quantified first f k) so.1 in-range)
 
@@ -41,7 +41,7 @@ loop-x-preserved g c p q f ma li =
     let x = c.loop-x.x in
     let first = c.args.first in
     let s = g.S.Store.shows c.args.store.now in
-    let u = g.S.Store.shows c.halves.new.store in
+    let u = g.S.Store.shows c.exists.new.store in
     let e : suc (x - first) ≡ x + 1 - first = omega arith in
     subst (λ k. Runs s (quantified_list p q first f k) u × Means u c.in_ok-f.f (quantified first f k)) e
     (runs_of (turn p q first f x (x - first) c.loop-x.f (omega arith) (omega (arith, li)) (c.loop-x.invariant p q f ma li) (Ok c.in_ok-f.f) c.in_ok-f.ensures))
