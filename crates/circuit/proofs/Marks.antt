@@ -1,25 +1,24 @@
 -- Lines that are marked one after another, as they touch an input.
-use Rattle.std.proofs.Common.{◌≡◌, ℕ, ◌+◌, ◌-◌, ◌<◌, ◌≤◌, Bool, false, List, [], ◌∷◌, ◌++◌, length, take, drop, get_or, ltb, sym, ap, ◌∙◌, arith}
-use Rattle.std.proofs.lemmas.List.{take_more, take_all, drop_all, at_drop_more, length-append}
+use Rattle.std.proofs.Common.{◌≡◌, ℕ, ◌+◌, ◌-◌, ◌<◌, Bool, false, List, [], ◌∷◌, ◌++◌, length, drop, get_or, map, ltb, sym, ap, ◌∙◌, arith}
+use Rattle.std.specs.List.{range_with_len}
+use Rattle.std.proofs.lemmas.List.FromFn.{get_or-map-range_with_len, length-map-range_with_len}
+use Rattle.std.proofs.lemmas.List.{ext_get_or, drop_all, at_drop_more, length-append}
 use Rattle.circuit.specs.Netlists.{Netlist, blank, gate_line, init_line}
 use Rattle.circuit.specs.Lines.{either, extended, touching}
 use Rattle.circuit.proofs.Lines.{front, front_length, front_at}
 
 module _ (c : Netlist) where
-  pub front_more : (x : ℕ) (marks : List Bool) → x < gate_line c 0 → marks ≡ take x (front c) → marks ++ ltb c.registers x ∷ [] ≡ take (x + 1) (front c)
-  front_more x marks h e =
-      ap (λ m. m ++ ltb c.registers x ∷ []) e
-      ∙ ap (λ b. take x (front c) ++ b ∷ []) (sym (front_at c x h))
-      ∙ sym (take_more (front c) x false (omega (arith, front_length c)))
-
   -- the marks of the lines before gate g, which tell which lines touch an input
   abbrev pub Marked : List Bool → ℕ → Type 0
   Marked marks g = (length marks ≡ gate_line c g) × ((x : ℕ) → get_or (extended either (drop g c.gates) marks) x false ≡ touching c x)
 
-  pub marked_front : (marks : List Bool) (x : ℕ) → gate_line c 0 ≤ x → length marks ≡ x → marks ≡ take x (front c) → Marked marks 0
+  pub marked_front : (marks : List Bool) → marks ≡ map (λ x. ltb c.registers x) (range_with_len 0 (gate_line c 0)) → Marked marks 0
   unfolding touching
-  marked_front marks x h n e =
-      let is : marks ≡ front c = e ∙ take_all x (front c) (omega (arith, front_length c)) in
+  marked_front marks e =
+      let n = gate_line c 0 in
+      let rule = λ (x : ℕ). ltb c.registers x in
+      let long = length-map-range_with_len rule 0 n in
+      let is : marks ≡ front c = e ∙ ext_get_or false _ (front c) (long ∙ sym (front_length c)) (λ i h. get_or-map-range_with_len rule 0 n i i false (omega (arith, h, long)) (omega arith) ∙ sym (front_at c i (omega (arith, h, long)))) in
       (ap length is ∙ front_length c, λ y. ap (λ m. get_or (extended either c.gates m) y false) is)
 
   pub marked_more : (marks : List Bool) (g : ℕ) → g < length c.gates → Marked marks g

@@ -95,10 +95,9 @@ impl Netlist {
         requires { InRange (sizes self.now) }
         ensures { result ≡ touching self.now (init_line self.now) }
     {
+        let before = (0..self.line(Sort::Gate, 0)).map(|line| line > usize::from(self.registers));
         let mut marks = ArrayVec::<bool, MOST_LINES>::new();
-        for line in 0..self.line(Sort::Gate, 0) {
-            marks.push(line > usize::from(self.registers));
-        }
+        marks.extend(before).unwrap();
         // Pushes, since the mark of a gate is read from those before it.
         for gate in self.gates.as_slice() {
             let touches = gate.names_marked(marks.as_slice());

@@ -1,19 +1,12 @@
-use Rattle.std.proofs.Common.{◌≡◌, ◌++◌, map, Result, Ok, Err, IsOk, OnErr, MatchResult, refl, sym, ap, ◌∙◌, rules, arith}
+use Rattle.std.proofs.Common.{◌≡◌, ◌++◌, map, refl, sym, ap, ◌∙◌, rules, arith}
 use Rattle.std.proofs.lemmas.Iterator.{YieldsList-from_map, YieldsList-from_any_map, YieldsList-from_range, items_from_drains}
 use Rattle.std.proofs.lemmas.Iterator.Consumers.{YieldsList-turn, YieldsList-at}
 use Rattle.std.proofs.lemmas.List.FromFn.{length-range_with_len}
 use Rattle.std.proofs.lemmas.List.{length-append, length-map, map-id}
 use Rattle.std.specs.List.{range_with_len}
 use Rattle.circuit.specs.Files.{gate_at}
+use Rattle.circuit.proofs.Filling.{ok_unless, of_ok}
 use Rattle.circuit.proofs.netlist.Netlist.read.Goals as goal
-
-ok_unless : {T E A B : Type 0} (r : Result T E) → OnErr r A → OnErr r B → (A → B → ⊥) → IsOk r
-ok_unless (Ok x) a b f = refl
-ok_unless (Err e) a b f = absurd (f a b)
-
-of_ok : {T E : Type 0} (r : Result T E) (x : T) (A B : Type 0) → r ≡ Ok x → MatchResult r (λ _. A) (λ _. B) → A
-of_ok (Ok y) x A B h a = a
-of_ok (Err e) x A B h a = absurd cc
 
 pub unwrap-requires : goal.unwrap-requires
 unwrap-requires c =
