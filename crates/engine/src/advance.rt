@@ -38,6 +38,7 @@ impl Search {
         let Verdict::Open = self.last.verdict else {
             return Err(Fault::Settled);
         };
+        // Never so in a session: the last set that there can be is settled.
         if self.earlier.is_full() {
             return Err(Fault::Settled);
         }

@@ -1,4 +1,4 @@
-// The calls of a session that change nothing, but for the trace.
+// A new session, its verdict, and which states its last set does not hold.
 ghost use Rattle.std.specs.Prelude.{◌≡◌, List, []};
 ghost use Rattle.uses.specs.Calls.{State, empty, stand, Event, ask, inside};
 ghost use Rattle.uses.specs.Promise.{Promise};

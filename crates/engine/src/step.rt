@@ -17,7 +17,7 @@ impl Step {
         Step { state, input: 0 }
     }
 
-    // The valuation of n registers and the inputs.
+    // The valuation of n registers and the inputs. By recursion, as `spread` is defined: a loop would need an invariant that says the same.
     pub(crate) fn valuation(self, n: u8) -> u32
         requires { n ≤ MOST_REGISTERS }
         ensures is { result ≡ spread n self.state self.input }

@@ -1,4 +1,4 @@
-// A kind of entry whose `==` tells identity, with a hash by which it is found.
+// A kind of entry whose `==` tells identity, with a hash by which it is found. No `Hash` of the library: a hasher to take it would say the same in more lines.
 ghost use Rattle.std.specs.Prelude.{◌≡◌, ℕ, Decides};
 
 pub trait Entry: Copy + PartialEq {
