@@ -33,7 +33,8 @@ fn key(task: Task) -> u64
     (kind * 65536 + a) * 65536 + b
 }
 
-// The top bits of a product that spreads keys which are close.
+// The top bits of a product that spreads keys which are close. A hash of a node is made in the same way, of other bits: a function of how many
+// would have to ask that there are so many.
 #[inline(always)]
 fn place(key: u64) -> usize
     ensures hashed { result ≡ place key }

@@ -21,5 +21,5 @@ pub use load::build;
 pub use places::place_at;
 pub use step::back;
 
-// The number of false in every store.
+// The number of false in every store. A make writes 0 and 1, since it counts with them.
 pub const FALSE: u16 = 0;

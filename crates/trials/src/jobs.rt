@@ -38,7 +38,7 @@ fn frames(rt: HostRuntime) {
     assert_eq!(rt; read(&JOB), sizes);
     for count in [0, 9, 10, 21] {
         assert_eq!(rt;
-            read(&JOB[0..count]),
+            read(&JOB[..count]),
             Err(Fault::Frame(Unframed::Length(count)))
         );
     }

@@ -80,7 +80,7 @@ fn refusals(rt: HostRuntime) -> Result<(), Fail> {
 fn refused_frames(rt: HostRuntime) -> Result<(), Fail> {
     let heap = rt.alloc();
     for count in [0, 9, 10, 21] {
-        let text = text_of(heap, &JOB[0..count], 100)?;
+        let text = text_of(heap, &JOB[..count], 100)?;
         let wanted = format!(in heap; "refused 2 part 0 place {count}\naccepted 0\n")?;
         assert_eq!(rt; text.as_str(), wanted.as_str());
     }

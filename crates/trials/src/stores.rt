@@ -81,6 +81,7 @@ fn layer<S: Store>(store: S) -> Layer<S> {
 }
 
 // With a link for each record, for some of them and for none; what the links held before does not matter. One is lent.
+// Ranges from 0: of those to an end alone, `slice_bounds` stayed open.
 #[test]
 fn makes_agree(rt: HostRuntime) -> Result<(), Fail> {
     let heap = rt.alloc();
@@ -144,7 +145,7 @@ fn last_records(rt: HostRuntime) -> Result<(), Fail> {
     let mut nodes = [Node::default(); 5];
     let mut links = [65535; 7];
     for count in [0, 3, 7] {
-        let store = Diagram::new(3, &mut nodes, &mut links[0..count]);
+        let store = Diagram::new(3, &mut nodes, &mut links[..count]);
         fills_up(&rt, store)?;
     }
     Ok(())
