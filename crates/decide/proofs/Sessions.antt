@@ -51,19 +51,19 @@ loaded_by {x = x} {a = a} {p = p} {r = r} s w v e u k n =
     let z = n [] empty u k in
     subst (λ i. MatchResult r (λ y. Began i x a p y v) (Unbegun i x a p)) e (loading v z.0 (last_step z.1) z.1 z.2)
 
--- an empty session is not advanced
-module _ (w : World) (k : Keeps empty w) where
-  asking : {t : Shown} {x : Stand} {r : Verdict} → Step (stand empty t) (ask r) x → r ≡ answer.Empty
-  asking asks = refl
+-- an empty session stays so, and is not advanced
+module _ (w v : World) (k : Keeps empty w) where
+  asking : {t : Shown} {r : Verdict} (st : State) → Step (stand empty t) (ask r) (stand st v.store) → Keeps st v → Keeps empty v × (r ≡ answer.Empty)
+  asking st asks k = (k, refl)
 
-  pub asked_empty : {r : Verdict} → Next w (ask r) w → r ≡ answer.Empty
-  asked_empty n = asking (last_step (n [] empty uses.begun k).1)
+  pub asked_empty : {r : Verdict} → Next w (ask r) v → Keeps empty v × (r ≡ answer.Empty)
+  asked_empty n = let z = n [] empty uses.begun k in asking z.0 (last_step z.1) z.2
 
   refusing : {t : Shown} {x : Stand} {r : Result Verdict Refusal} → Step (stand empty t) (advance r) x → r ≡ Err Empty
   refusing advance_empty = refl
 
-  pub refused_empty : {r : Result Verdict Refusal} (v : World) → Next w (advance r) v → r ≡ Err Empty
-  refused_empty v n = refusing (last_step (n [] empty uses.begun k).1)
+  pub refused_empty : {r : Result Verdict Refusal} → Next w (advance r) v → r ≡ Err Empty
+  refused_empty n = refusing (last_step (n [] empty uses.begun k).1)
 
 module _ (s : Shown) (m : Model) (j : ℕ) where
   advancing : {t : Shown} {r : Result Verdict Refusal} {h : List Event} (v : World) (st : State)
@@ -86,11 +86,12 @@ module _ (s : Shown) (m : Model) (j : ℕ) where
       → MatchResult r (λ y. Come s m (suc j) v × (y ≡ told (loaded m (suc j)))) (Short s m)
   advanced_by w v c o n = let z = n c.past (loaded m j) c.led c.keeps in advancing v z.0 (last_step z.1) z.1 z.2 c.searched o
 
-  answering : {t : Shown} {x : Stand} {r : Verdict} → Step (stand (loaded m j) t) (ask r) x → r ≡ told (loaded m j)
-  answering asks = refl
+  answering : {t : Shown} {r : Verdict} {h : List Event} (v : World) (st : State) → Step (stand (loaded m j) t) (ask r) (stand st v.store) → Use h (stand st v.store)
+      → Keeps st v → Searched m s j t → Come s m j v × (r ≡ told (loaded m j))
+  answering {h = h} v st asks u k f = (record { past = h; led = u; keeps = k; searched = f }, refl)
 
-  pub answered_by : {r : Verdict} (w : World) → Come s m j w → Next w (ask r) w → r ≡ told (loaded m j)
-  answered_by w c n = answering (last_step (n c.past (loaded m j) c.led c.keeps).1)
+  pub answered_by : {r : Verdict} (w v : World) → Come s m j w → Next w (ask r) v → Come s m j v × (r ≡ told (loaded m j))
+  answered_by w v c n = let z = n c.past (loaded m j) c.led c.keeps in answering v z.0 (last_step z.1) z.1 z.2 c.searched
 
   telling : {t : Shown} {x : Stand} {q : ℕ} {r : Result Bool Refusal} → Step (stand (loaded m j) t) (inside q r) x → verdict (system m) j ≡ safe → q < 2 ^ m.circuit.registers
       → r ≡ Ok (search.inside (system m) j q)
@@ -98,9 +99,9 @@ module _ (s : Shown) (m : Model) (j : ℕ) where
   telling (inside_state o' l') o l = absurd (omega arith)
   telling (insides o' l') o l = refl
 
-  pub told_by : {q : ℕ} {r : Result Bool Refusal} (w : World) → Come s m j w → verdict (system m) j ≡ safe → Next w (inside q r) w → q < 2 ^ m.circuit.registers
+  pub told_by : {q : ℕ} {r : Result Bool Refusal} (w v : World) → Come s m j w → verdict (system m) j ≡ safe → Next w (inside q r) v → q < 2 ^ m.circuit.registers
       → r ≡ Ok (search.inside (system m) j q)
-  told_by w c o n l = telling (last_step (n c.past (loaded m j) c.led c.keeps).1) o l
+  told_by w v c o n l = telling (last_step (n c.past (loaded m j) c.led c.keeps).1) o l
 
   -- both arrays hold the trace
   pub record Handed (x y x' y' : List ℕ) : Type 0 where
@@ -116,9 +117,9 @@ module _ (s : Shown) (m : Model) (j : ℕ) where
   handing (trace_short o' n) o lx ly = n lx ly
   handing (traces q v o' lx' ly' d) o lx ly = record { states = q; inputs = v; trace = d; states_are = refl; inputs_are = refl }
 
-  pub handed_by : {x y x' y' : List ℕ} {r : Result (Unit {0}) Refusal} (w : World) → Come s m j w → verdict (system m) j ≡ unsafe j → Next w (trace x y x' y' r) w
+  pub handed_by : {x y x' y' : List ℕ} {r : Result (Unit {0}) Refusal} (w v : World) → Come s m j w → verdict (system m) j ≡ unsafe j → Next w (trace x y x' y' r) v
       → suc j ≤ length x → suc j ≤ length y → MatchResult r (λ _. Handed x y x' y') (λ _. ⊥)
-  handed_by w c o n lx ly = handing (last_step (n c.past (loaded m j) c.led c.keeps).1) o lx ly
+  handed_by w v c o n lx ly = handing (last_step (n c.past (loaded m j) c.led c.keeps).1) o lx ly
 
   valid_of : (t : Shown) (x : Option Search) → MatchOption x ⊥ (Sets m j t) → Valid m
   valid_of t None k = absurd k

@@ -16,9 +16,9 @@ use store::Store;
 
 // How many of the states are inside. A bound on the registers is asked for here and in `engine` and `making`: they come of a file, of a circuit or of a list,
 // and a type for them would be made anew in each place.
-fn count_inside<S: Store>(session: &Session<S>, registers: u16) -> Result<u16, Fault>
+fn count_inside<S: Store>(session: &mut Session<S>, registers: u16) -> Result<u16, Fault>
     requires { registers ≤ MOST_REGISTERS }
-    ensures { CountsInside (world S.Store.shows session.now) registers result }
+    ensures { CountsInside (world S.Store.shows session.old) registers result }
 {
     let mut count = 0;
     // A `for`: of a sum of results the library says nothing, and a `try_fold` needs a clause on its closure, that the sum fits,
@@ -29,8 +29,8 @@ fn count_inside<S: Store>(session: &Session<S>, registers: u16) -> Result<u16, F
     Ok(count)
 }
 
-fn read_trace<S: Store>(session: &Session<S>, depth: Depth) -> Result<Trace, Fault>
-    ensures { HandsOut (world S.Store.shows session.now) depth.advances result }
+fn read_trace<S: Store>(session: &mut Session<S>, depth: Depth) -> Result<Trace, Fault>
+    ensures { HandsOut (world S.Store.shows session.old) depth.advances result }
 {
     // Two arrays, by the rule of the call: a session fills two that are lent.
     let mut states = [0; MOST_STEPS];
@@ -42,12 +42,12 @@ fn read_trace<S: Store>(session: &Session<S>, depth: Depth) -> Result<Trace, Fau
 
 // The report on a job with this circuit file, whose search has settled.
 pub(crate) fn conclude<S: Store>(
-    session: &Session<S>,
+    session: &mut Session<S>,
     file: &[u8],
     settled: Settled,
 ) -> Result<Report, Fault>
     requires { registers file.now ≤ MOST_REGISTERS }
-    ensures { Concludes (world S.Store.shows session.now) file.now settled result }
+    ensures { Concludes (world S.Store.shows session.old) file.now settled result }
 {
     let sizes = sizes_at(file);
     match settled {

@@ -27,7 +27,7 @@ fn run<S: Store + Drop>(job: &[u8], store: S) -> Result<Report, Fault>
     let mut session = Session::new(store);
     session.load(source)?;
     let settled = settle(&mut session)?;
-    Ok(conclude(&session, source.circuit, settled)?)
+    Ok(conclude(&mut session, source.circuit, settled)?)
 }
 
 // What is to be said of a job, whatever its bytes, by a search in the store.

@@ -30,16 +30,21 @@ use Rattle.uses.specs.Uses.{Step, load_twice, load_wrong, load_full, loads}
 use Rattle.engine.specs.declared.search.Search.{Search}
 use Rattle.engine.specs.Keeping.{World, searching, Next}
 use Rattle.engine.specs.Loading.{BeginsFrom}
-use Rattle.engine.proofs.Keepings.{Leads_on, from_none, stays_none, stays_some}
+use Rattle.engine.proofs.Keepings.{Leads_on, from_none, stays_some}
 use Rattle.engine.proofs.Meeting.{misses, meets}
 
 module _ (x a p : List ℕ) (w : World) where
   pub when_twice : (k : Search) → w.search ≡ Some k → Next w (load x a p (Err fault.Loaded)) w
   when_twice k e = stays_some w _ k e (λ m j r h. load_twice)
 
-  module _ (e : w.search ≡ None) (f : Figures) (told_of : TellsFigures w.store f) where
-    pub when_wrong : (i : Misdescription) → Checked f.variables x a p (Err i) → Next w (load x a p (Err (fault.Description i))) w
-    when_wrong i c = stays_none w _ e (load_wrong (subst (λ n. Checked n x a p (Err i)) told_of.variables c))
+  -- the store after the question how wide it is
+  module _ (e : w.search ≡ None) (t : Shown) (same : t ≡ w.store) (f : Figures) (told_of : TellsFigures w.store f) where
+    pub when_wrong : (i : Misdescription) → Checked f.variables x a p (Err i) → Next w (load x a p (Err (fault.Description i))) (record { store = t; search = w.search })
+    when_wrong i c = from_none w _ (record { store = t; search = w.search }) e (
+      empty,
+      subst (λ s. Step (stand empty w.store) (load x a p (Err (fault.Description i))) (stand empty s)) (sym same) (load_wrong (subst (λ n. Checked n x a p (Err i)) told_of.variables c)),
+      e,
+    )
 
     module _ (d : Described) (known : Understood f.variables x a p d) (v : Shown) where
       abbrev model : Model
@@ -51,14 +56,15 @@ module _ (x a p : List ℕ) (w : World) where
       checked : Checked w.store.vars x a p (Ok model)
       checked = subst (λ n. Checked n x a p (Ok model)) told_of.variables (right known.describes)
 
-      ran : (r : Result Built Fault) → Builds w.store (netlist d.circuit) (used d.assumption) (used d.property) r v
+      ran : (r : Result Built Fault) → Builds t (netlist d.circuit) (used d.assumption) (used d.property) r v
           → Ends located w.store v (load_list model) (Loaded v model (claim_fn model model.assumption) (claim_fn model model.property)) r
       ran r b =
-          let at_model = subst (λ (c : Netlist). Builds w.store c (used d.assumption) (used d.property) r v) known.circuit b in
+          let at_store = subst (λ (s : Shown). Builds s (netlist d.circuit) (used d.assumption) (used d.property) r v) same b in
+          let at_model = subst (λ (c : Netlist). Builds w.store c (used d.assumption) (used d.property) r v) known.circuit at_store in
           at_model model.assumption model.property known.assumed known.promised valid.0.assumption valid.0.property told_of.lawful
           (omega (arith, valid.1, told_of.variables))
 
-      pub when_full : (i : Fault) → Builds w.store (netlist d.circuit) (used d.assumption) (used d.property) (Err i) v → Next w (load x a p (Err i)) (record { store = v; search = w.search })
+      pub when_full : (i : Fault) → Builds t (netlist d.circuit) (used d.assumption) (used d.property) (Err i) v → Next w (load x a p (Err i)) (record { store = v; search = w.search })
       when_full i b = from_none w _ (record { store = v; search = w.search }) e (by (ran (Err i) b))
         where
           by : Ends located w.store v (load_list model) (Loaded v model (claim_fn model model.assumption) (claim_fn model model.property)) (Err i)
@@ -82,7 +88,7 @@ module _ (x a p : List ℕ) (w : World) where
           met : Means v b.met (both (set_fn model 0) (init_fn model))
           met = record { held = q.met.held; same = λ u l. q.met.same u l ∙ ap (λ y. y && init_fn model u) ((functions_exact model valid.0).stepped.first u) }
 
-      pub when_done : (b : Built) (k : Search) → BeginsFrom b k → Builds w.store (netlist d.circuit) (used d.assumption) (used d.property) (Ok b) v
+      pub when_done : (b : Built) (k : Search) → BeginsFrom b k → Builds t (netlist d.circuit) (used d.assumption) (used d.property) (Ok b) v
           → Next w (load x a p (Ok k.last.verdict)) (searching v k)
       when_done b k z f = from_none w _ _ e (by (ran (Ok b) f))
         where

@@ -15,8 +15,15 @@ use Rattle.runs.specs.Search.{bad}
 use Rattle.runs.specs.Systems.{State, Input, Closed}
 use Rattle.runs.proofs.Models.{functions_exact}
 use Rattle.runs.proofs.Numbers.{spreads}
-use Rattle.engine.specs.Questions.{Readable, Tells}
+use Rattle.engine.specs.Questions.{Readable, Tells, GoesTo}
 use Rattle.uses.proofs.Told.{never}
+
+-- the store shows the same
+pub told_still : (s t : Shown) (n a q v : ℕ) (r : Result Bool Fault) → s ≡ t → Tells s n a q v r → Tells t n a q v r
+told_still s t n a q v r e = subst (λ x. Tells x n a q v r) e
+
+pub goes_still : (s t : Shown) (k : Parts) (q v : ℕ) (r : Result ℕ Fault) → s ≡ t → GoesTo s k q v r → GoesTo t k q v r
+goes_still s t k q v r e = subst (λ x. GoesTo x k q v r) e
 
 -- no refusal is an answer
 pub refused : {X : Type 0} {A : Type 0} {e : Fault} {b : A} → ◌≡◌ {A = Result A Fault} (Err e) (Ok b) → X

@@ -1,6 +1,7 @@
 -- What the searches of a trace come to where the sets are kept.
-use Rattle.std.proofs.Common.{◌≡◌, ℕ, ◌^◌, ◌<◌, Bool, true, Ok, Err, Result, ap, ◌∙◌, subst}
+use Rattle.std.proofs.Common.{◌≡◌, ℕ, ◌^◌, ◌<◌, Bool, true, Ok, Err, Result, sym, ap, ◌∙◌, subst}
 use Rattle.std.proofs.lemmas.Bool.{both_ways}
+use Rattle.std.specs.Borrow.{MutBor}
 use Rattle.store.specs.Fun.{some}
 use Rattle.store.specs.Meaning.{Shown}
 use Rattle.making.specs.declared.fault.Fault.{Fault}
@@ -13,7 +14,7 @@ use Rattle.runs.specs.Valuations.{set_fn}
 use Rattle.runs.proofs.Some.{none_found}
 use Rattle.engine.specs.declared.search.Search.{Search}
 use Rattle.engine.specs.Keeping.{Sets}
-use Rattle.engine.specs.Questions.{GoesTo, Begins, Leads, Faults, Finds, Telling}
+use Rattle.engine.specs.Questions.{Readable, GoesTo, Begins, Leads, Faults, Finds, Telling}
 use Rattle.engine.proofs.Keepings.{readable}
 
 -- what is found, and that something is
@@ -24,28 +25,36 @@ module _ (f : ℕ → Bool) (n : ℕ) (r : Result ℕ Fault) (h : Finds n f r) w
   pub lost : {e : Fault} → some f n ≡ true → r ≡ Err e → ⊥
   lost t e = both_ways _ (none_found f n (subst (Finds n f) e h)) t
 
+-- the store shows the same
+pub sets_still : (m : Model) (j : ℕ) (k : Search) (s t : Shown) → t ≡ s → Sets m j s k → Sets m j t k
+sets_still m j k s t e = subst (λ x. Sets m j x k) (sym e)
+
 module _ (m : Model) (j : ℕ) (s : Shown) (k : Search) (h : Sets m j s k) where
   pub next_is : (q v : ℕ) (r : Result ℕ Fault) → State (system m) q → Input (system m) v → GoesTo s k.parts q v r → r ≡ Ok ((system m).next q v)
   next_is q v r lq lv f = f m (readable m j s k h) lq lv
 
-  module _ (calls : ℕ → Result Bool Fault → Type 0) (count : ℕ) (r : Result ℕ Fault) (finds : (f : ℕ → Bool) → Telling calls count f → Finds count f r) where
-    pub start : count ≡ 2 ^ registers_of k.parts → ((x : ℕ) (o : Result Bool Fault) → calls x o → Begins s k.parts k.last.set x o)
+  module _ {A : Type 0} (shows : A → Shown) (calls : MutBor A → ℕ → Result Bool Fault → MutBor A → Type 0) (count : ℕ) (r : Result ℕ Fault)
+      (finds : (f : ℕ → Bool) → Telling shows calls s count f → Finds count f r) where
+    known : (t : Shown) → t ≡ s → Readable t m k.parts
+    known t e = subst (λ x. Readable x m k.parts) (sym e) (readable m j s k h)
+
+    pub start : count ≡ 2 ^ registers_of k.parts → ((a b : MutBor A) (x : ℕ) (o : Result Bool Fault) → calls a x o b → Begins (shows a.now) k.parts k.last.set x o)
         → Finds (2 ^ (system m).registers) (initial_in (system m) (bad (system m) j)) r
     start e q =
         let n = e ∙ ap (λ n. 2 ^ n) h.registers in
         subst (λ n. Finds n (initial_in (system m) (bad (system m) j)) r) n
-        (finds _ (λ x o l c. q x o c m j (readable m j s k h) h.set (subst (λ i. x < i) n l)))
+        (finds _ (λ a b x o p l c. q a b x o c m j (known _ p) (subst (λ t. Means t k.last.set (set_fn m j)) (sym p) h.set) (subst (λ i. x < i) n l)))
 
     module _ (e : count ≡ 2 ^ k.parts.m) (y : ℕ) (ly : State (system m) y) where
-      pub lead : (i a : ℕ) → Means s a (set_fn m i) → ((x : ℕ) (o : Result Bool Fault) → calls x o → Leads s k.parts a y x o)
+      pub lead : (i a : ℕ) → Means s a (set_fn m i) → ((p b : MutBor A) (x : ℕ) (o : Result Bool Fault) → calls p x o b → Leads (shows p.now) k.parts a y x o)
           → Finds (2 ^ (system m).inputs) (leads_into (system m) (bad (system m) i) y) r
       lead i a d q =
           let n = e ∙ ap (λ n. 2 ^ n) h.inputs in
           subst (λ n. Finds n (leads_into (system m) (bad (system m) i) y) r) n
-          (finds _ (λ x o l c. q x o c m i (readable m j s k h) d ly (subst (λ i. x < i) n l)))
+          (finds _ (λ p b x o z l c. q p b x o c m i (known _ z) (subst (λ t. Means t a (set_fn m i)) (sym z) d) ly (subst (λ i. x < i) n l)))
 
-      pub fault : ((x : ℕ) (o : Result Bool Fault) → calls x o → Faults s k.parts y x o)
+      pub fault : ((p b : MutBor A) (x : ℕ) (o : Result Bool Fault) → calls p x o b → Faults (shows p.now) k.parts y x o)
           → Finds (2 ^ (system m).inputs) (faulty (system m) y) r
       fault q =
           let n = e ∙ ap (λ n. 2 ^ n) h.inputs in
-          subst (λ n. Finds n (faulty (system m) y) r) n (finds _ (λ x o l c. q x o c m (readable m j s k h) ly (subst (λ i. x < i) n l)))
+          subst (λ n. Finds n (faulty (system m) y) r) n (finds _ (λ p b x o z l c. q p b x o c m (known _ z) ly (subst (λ i. x < i) n l)))

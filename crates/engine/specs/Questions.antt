@@ -1,5 +1,6 @@
 -- What the questions of a session promise one another: s is what the store shows.
 use Rattle.std.specs.Prelude.{◌≡◌, ℕ, ◌+◌, ◌*◌, ◌^◌, ◌<◌, ◌≤◌, Bool, false, Ok, Err, Result, map, slice_index}
+use Rattle.std.specs.Borrow.{MutBor}
 use Rattle.arrayvec.specs.ArrayVec.{ArrayVec, array_vec_len}
 use Rattle.store.specs.Fun.{Fn}
 use Rattle.store.specs.Meaning.{Shown}
@@ -43,9 +44,13 @@ Faults s k q v r = (m : Model) → Readable s m k → State (system m) q → Inp
 abbrev pub Begins : Shown → Parts → ℕ → ℕ → Result Bool Fault → Type 0
 Begins s k a q r = (m : Model) (i : ℕ) → Readable s m k → Means s a (set_fn m i) → State (system m) q → r ≡ Ok (initial_in (system m) (bad (system m) i) q)
 
--- below n a test answers f
-abbrev pub Telling : (ℕ → Result Bool Fault → Type 0) → ℕ → (ℕ → Bool) → Type 0
-Telling calls n f = (x : ℕ) (r : Result Bool Fault) → x < n → calls x r → r ≡ Ok (f x)
+-- a call of a test leaves what the store shows
+abbrev pub Keeping : {A : Type 0} → (A → Shown) → (MutBor A → ℕ → Result Bool Fault → MutBor A → Type 0) → Type 0
+Keeping {A} shows calls = (a b : MutBor A) (x : ℕ) (r : Result Bool Fault) → calls a x r b → shows b.now ≡ shows a.now
+
+-- below n a test answers f, where the store shows s
+abbrev pub Telling : {A : Type 0} → (A → Shown) → (MutBor A → ℕ → Result Bool Fault → MutBor A → Type 0) → Shown → ℕ → (ℕ → Bool) → Type 0
+Telling {A} shows calls s n f = (a b : MutBor A) (x : ℕ) (r : Result Bool Fault) → shows a.now ≡ s → x < n → calls a x r b → r ≡ Ok (f x)
 
 -- the smallest number below n at which f holds; a refusal if there is none
 abbrev pub Finds : ℕ → (ℕ → Bool) → Result ℕ Fault → Type 0

@@ -1,20 +1,24 @@
 // The smallest states and inputs of a trace.
-ghost use Rattle.std.specs.Prelude.{ℕ, Bool};
-ghost use Rattle.engine.specs.Questions.{Finds, Telling};
+ghost use Rattle.std.specs.Prelude.{◌≡◌, ℕ, Bool};
+ghost use Rattle.engine.specs.Questions.{Finds, Keeping, Telling};
 
 use making::fault::Fault;
+use store::Store;
 
 // The smallest number below `count` at which `holds` says so. One that is sought is always there, so that none is found only in a store that lost a number.
-pub(crate) fn smallest<F: Fn(u16) -> Result<bool, Fault>>(
+pub(crate) fn smallest<S: Store, F: Fn(&mut S, u16) -> Result<bool, Fault>>(
+    store: &mut S,
     count: u16,
     holds: F,
 ) -> Result<u16, Fault>
-    requires { F.IsAlwaysCallable holds }
-    ensures { (f : ℕ → Bool) → Telling (F.post holds) count f → Finds count f result }
+    requires callable { F.IsAlwaysCallable holds }
+    requires still { Keeping S.Store.shows (F.post holds) }
+    ensures same { S.Store.shows store.new ≡ S.Store.shows store.old }
+    ensures finds { (f : ℕ → Bool) → Telling S.Store.shows (F.post holds) (S.Store.shows store.old) count f → Finds count f result }
 {
     // A `for`: `find` takes no test that can be refused.
     for x in 0..count {
-        if holds(x)? {
+        if holds(store, x)? {
             return Ok(x);
         }
     }

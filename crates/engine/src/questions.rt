@@ -26,9 +26,10 @@ impl<S: Store> Session<S> {
 
     // The verdict, and with it what any use that led here comes to.
     // No `Option`: `Empty` is a verdict of the rules, which a session answers before a load.
-    pub fn verdict(&self) -> Verdict
-        ensures promise { (h : List Event) (st : State) → Use h (stand st (world S.Store.shows self.now).store) → Keeps st (world S.Store.shows self.now) → Promise h st result }
-        ensures next { Next (world S.Store.shows self.now) (ask result) (world S.Store.shows self.now) }
+    pub fn verdict(&mut self) -> Verdict
+        ensures promise { (h : List Event) (st : State) → Use h (stand st (world S.Store.shows self.old).store) → Keeps st (world S.Store.shows self.old) → Promise h st result }
+        ensures next { Next (world S.Store.shows self.old) (ask result) (world S.Store.shows self.new) }
+        ensures same { self.new ≡ self.old }
     {
         self.search
             .as_ref()
@@ -36,8 +37,9 @@ impl<S: Store> Session<S> {
     }
 
     // Whether the last set does not hold a state.
-    pub fn inside(&self, state: u16) -> Result<bool, Fault>
-        ensures { Next (world S.Store.shows self.now) (inside state result) (world S.Store.shows self.now) }
+    pub fn inside(&mut self, state: u16) -> Result<bool, Fault>
+        ensures next { Next (world S.Store.shows self.old) (inside state result) (world S.Store.shows self.new) }
+        ensures same { world S.Store.shows self.new ≡ world S.Store.shows self.old }
     {
         let search = self.search.as_ref().ok_or(Fault::Empty)?;
         let Verdict::Safe = search.last.verdict else {
@@ -46,7 +48,7 @@ impl<S: Store> Session<S> {
         if state >= search.states() {
             return Err(Fault::State);
         }
-        let held = search.truth(&self.store, search.last.set, Step::at(state))?;
+        let held = search.truth(&mut self.store, search.last.set, Step::at(state))?;
         Ok(!held)
     }
 }

@@ -23,8 +23,9 @@ pub struct Layer<S: Store> {
 }
 
 // Whether the list holds each variable of the store once.
-pub fn check<S: Store>(store: &S, p: &[u8]) -> Result<(), Unfit>
-    ensures { result ≡ verdict (is_order (S.Store.shows store.now).vars p.now) }
+pub fn check<S: Store>(store: &mut S, p: &[u8]) -> Result<(), Unfit>
+    ensures same { S.Store.shows store.new ≡ S.Store.shows store.old }
+    ensures told { result ≡ verdict (is_order (S.Store.shows store.old).vars p.now) }
 {
     if is_order(store.figures().variables, p) {
         Ok(())
@@ -35,7 +36,7 @@ pub fn check<S: Store>(store: &S, p: &[u8]) -> Result<(), Unfit>
 
 impl<S: Store> Layer<S> {
     // The store under the order p; under the order of its variables, where p is none.
-    pub fn new(store: S, p: &[u8]) -> Layer<S>
+    pub fn new(mut store: S, p: &[u8]) -> Layer<S>
         ensures shows { ordered result.order.places.items (S.Store.shows result.store) ≡ ordered p.now (S.Store.shows store) }
         ensures reorders { Reorders (order_of (S.Store.shows store).vars p.now) (S.Store.shows store) (ordered p.now (S.Store.shows store)) }
     {
@@ -52,11 +53,11 @@ impl<S: Store> Store for Layer<S> {
         self.store.answer(self.order.task_below(task))
     }
 
-    fn value(&self, a: u16, w: u32) -> Result<bool, Refusal> {
+    fn value(&mut self, a: u16, w: u32) -> Result<bool, Refusal> {
         self.store.value(a, self.order.valuation_below(w))
     }
 
-    fn figures(&self) -> Figures {
+    fn figures(&mut self) -> Figures {
         self.store.figures()
     }
 }

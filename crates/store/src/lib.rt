@@ -71,11 +71,14 @@ pub trait Store {
         self.answer(Task::Cofactor(a, i, t))
     }
 
-    fn value(&self, a: u16, w: u32) -> Result<bool, Refusal>
-        ensures { TellsValue (shows self.now) a w result };
+    // The questions: they change nothing that is shown.
+    fn value(&mut self, a: u16, w: u32) -> Result<bool, Refusal>
+        ensures same { shows self.new ≡ shows self.old }
+        ensures told { TellsValue (shows self.old) a w result };
 
-    fn figures(&self) -> Figures
-        ensures { TellsFigures (shows self.now) result };
+    fn figures(&mut self) -> Figures
+        ensures same { shows self.new ≡ shows self.old }
+        ensures told { TellsFigures (shows self.old) result };
 }
 
 // A lent store is a store, so that whoever takes one can be handed the reference: a store may be large.
@@ -87,11 +90,11 @@ impl<S: Store> Store for &mut S {
         (**self).answer(task)
     }
 
-    fn value(&self, a: u16, w: u32) -> Result<bool, Refusal> {
+    fn value(&mut self, a: u16, w: u32) -> Result<bool, Refusal> {
         (**self).value(a, w)
     }
 
-    fn figures(&self) -> Figures {
+    fn figures(&mut self) -> Figures {
         (**self).figures()
     }
 }

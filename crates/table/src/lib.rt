@@ -67,13 +67,13 @@ impl Store for Table<'_> {
     }
 
     // Each make says this: said once, the trait would need the truth of any number, held or not, and that numbers are held in a row.
-    fn value(&self, a: u16, w: u32) -> Result<bool, Refusal> {
+    fn value(&mut self, a: u16, w: u32) -> Result<bool, Refusal> {
         check_value(a, w, self.list.len(), self.n)?;
         Ok(self.truth(a, w))
     }
 
     // Each make counts its own records, and has its own top price.
-    fn figures(&self) -> Figures {
+    fn figures(&mut self) -> Figures {
         Figures {
             variables: self.n,
             used: self.list.len() as u32,

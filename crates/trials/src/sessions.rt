@@ -59,7 +59,7 @@ fn step(state: u16, input: u16) -> Step {
 }
 
 // The steps of the trace, as they lie in two longer arrays.
-fn steps<S: Store>(session: &Session<S>) -> Result<[Step; 4], Fault> {
+fn steps<S: Store>(session: &mut Session<S>) -> Result<[Step; 4], Fault> {
     let mut states = [UNWRITTEN.state; 4];
     let mut inputs = [UNWRITTEN.input; 4];
     session.trace(&mut states, &mut inputs)?;
@@ -73,7 +73,7 @@ fn search<S: Store + Drop>(store: S, source: Source) -> Result<Told, Fault> {
         Settled::Unsafe(depth) => Ok(Told::Unsafe {
             advances: depth.advances,
             verdict: session.verdict(),
-            steps: steps(&session)?,
+            steps: steps(&mut session)?,
         }),
         Settled::Safe(depth) => {
             let mut inside = 0;

@@ -18,7 +18,7 @@ const ORDER: [u8; 4] = [2, 0, 3, 1];
 const STEPS: usize = 96;
 
 // The truths of a function of 4 variables at their 16 valuations, as bits.
-fn truths<S: Store>(store: &S, a: u16) -> Result<u16, Refusal> {
+fn truths<S: Store>(store: &mut S, a: u16) -> Result<u16, Refusal> {
     let mut bits = 0;
     for w in 0..16 {
         bits |= u16::from(store.value(a, w)?) << w;
@@ -70,7 +70,7 @@ fn driven<S: Store + Drop>(mut store: S, heap: Global) -> Result<Vec<u16>, Fail>
     for _ in 0..STEPS {
         let a = make(&mut store, seed, &made)?;
         made.push(a)?;
-        told.push(truths(&store, a)?)?;
+        told.push(truths(&mut store, a)?)?;
         seed = next(seed);
     }
     Ok(told)
@@ -179,7 +179,7 @@ fn makings_are_checked(rt: HostRuntime) {
     assert_eq!(rt; check_diagram(25, &[]), Err(Unfit::Store));
     assert_eq!(rt; check_table(10, &[]), Ok(()));
     assert_eq!(rt; check_table(11, &[]), Err(Unfit::Store));
-    let store = Table::new(11, &mut [], &mut []);
+    let mut store = Table::new(11, &mut [], &mut []);
     assert_eq!(rt;
         store.figures(),
         Figures {
@@ -189,9 +189,9 @@ fn makings_are_checked(rt: HostRuntime) {
             top_price: 1,
         }
     );
-    assert_eq!(rt; check_order(&store, &[0]), Ok(()));
-    assert_eq!(rt; check_order(&store, &[1]), Err(Unfit::Order));
-    assert_eq!(rt; check_order(&store, &[0, 0]), Err(Unfit::Order));
+    assert_eq!(rt; check_order(&mut store, &[0]), Ok(()));
+    assert_eq!(rt; check_order(&mut store, &[1]), Err(Unfit::Order));
+    assert_eq!(rt; check_order(&mut store, &[0, 0]), Err(Unfit::Order));
     assert_eq!(rt; Unfit::Order as u8, 18);
     assert_eq!(rt; (Refusal::Room(3).number(), Unfit::Store as u8), (10, 19));
 }

@@ -7,9 +7,8 @@ use Rattle.decide.specs.Reports.{tally}
 use Rattle.decide.specs.Searches.{Come}
 use Rattle.decide.proofs.conclude.count_inside.Given as goal
 
--- those below q are counted
+-- those below q are counted, and the session is as it was
 abbrev pub invariant-loop-q : goal.invariant-loop-q
-invariant-loop-q g l =
-    (l.count ≤ l.q)
-    × ((s : Shown) (m : Model) (j : ℕ) → Come s m j (world g.S.Store.shows l.session) → verdict (system m) j ≡ safe → l.registers ≡ m.circuit.registers
+invariant-loop-q g l = (world g.S.Store.shows l.session ≡ world g.S.Store.shows l.initial.session) × (l.count ≤ l.q)
+    × ((s : Shown) (m : Model) (j : ℕ) → Come s m j (world g.S.Store.shows l.initial.session) → verdict (system m) j ≡ safe → l.registers ≡ m.circuit.registers
     → l.count ≡ tally l.q (inside (system m) j))

@@ -10,13 +10,13 @@ use Rattle.decide.proofs.conclude.read_trace.Goals as goal
 
 pub returns-in_err-trace : goal.returns-in_err-trace
 returns-in_err-trace g c s m k o =
-    absurd (handed_by s m c.args.depth.advances (world g.S.Store.shows c.args.session.now) k o c.in_err-trace.ensures (omega arith) (omega arith))
+    absurd (handed_by s m c.args.depth.advances (world g.S.Store.shows c.args.session.now) (world g.S.Store.shows c.trace.new.self) k o c.in_err-trace.ensures.next (omega arith) (omega arith))
 
 pub returns : goal.returns
 returns g c s m k o =
     let d = c.args.depth.advances in
     let x = c.of.result in
-    let h = handed_by s m d (world g.S.Store.shows c.args.session.now) k o c.in_ok-trace.ensures (omega arith) (omega arith) in
+    let h = handed_by s m d (world g.S.Store.shows c.args.session.now) (world g.S.Store.shows c.trace.new.self) k o c.in_ok-trace.ensures.next (omega arith) (omega arith) in
     let count : c.from-count.result + 1 ≡ suc d = omega arith in
     let a : map (λ s. s.state) x.steps.items ≡ take (suc d) c.trace.new.states = c.of.ensures.states ∙ ap (λ i. take i c.trace.new.states) count in
     let b : map (λ s. s.input) x.steps.items ≡ take (suc d) c.trace.new.inputs = c.of.ensures.inputs ∙ ap (λ i. take i c.trace.new.inputs) count in

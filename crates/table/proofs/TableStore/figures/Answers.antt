@@ -6,8 +6,8 @@ use Rattle.table.proofs.TableStore.figures.Goals as goal
 pub overflow_cast-result : goal.overflow_cast-result
 overflow_cast-result c = omega (arith, c.len.ensures, entries_fit c.args.self.now.list, c.args.self.now.small)
 
-pub returns : goal.returns
-returns c = record {
+pub returns-clause-told : goal.returns-clause-told
+returns-clause-told c = record {
   lawful = lawful_table c.args.self.now;
   variables = refl;
   used = c.len.ensures;
