@@ -1,4 +1,4 @@
-// A new session, its verdict, and which states its last set does not hold.
+// A new session, its store handed back, its verdict, and which states its last set does not hold.
 ghost use Rattle.std.specs.Prelude.{◌≡◌, List, []};
 ghost use Rattle.uses.specs.Calls.{State, empty, stand, Event, ask, inside};
 ghost use Rattle.uses.specs.Promise.{Promise};
@@ -22,6 +22,13 @@ impl<S: Store> Session<S> {
             store,
             search: None,
         }
+    }
+
+    /// Hands back the store, which shows what it showed last.
+    pub fn into_store(self) -> S
+        ensures { S.Store.shows result ≡ (world S.Store.shows self).store }
+    {
+        self.store
     }
 
     // The verdict, and with it what any use that led here comes to.
