@@ -25,7 +25,7 @@ use Rattle.decide.specs.Reports.{Searched, begun, advanced}
 use Rattle.decide.specs.Searches.{Come, Short}
 
 -- the latest event of a use was a step
-last_step : {w v u : Stand} {c : Call} {h : List Event} → Use (event w c v ∷ h) u → Step w c v
+last_step : {s : Shown} {w v u : Stand} {c : Call} {h : List Event} → Use s (event w c v ∷ h) u → Step w c v
 last_step (went_on u s) = s
 
 -- what a load of an empty session leaves
@@ -40,15 +40,15 @@ abbrev pub Unbegun : Shown → (x a p : List ℕ) → Refusal → Type 0
 Unbegun s x a p e = ((d : Misdescription) × Checked s.vars x a p (Err d) × (e ≡ Description d)) ⊎ ((m : Model) × Describes s.vars x a p m × (y : Item) × (t : Shown) × Stops s (load_list m) y t × (e ≡ room y t))
 
 loading : {s : Shown} {x a p : List ℕ} {r : Result Verdict Refusal} {h : List Event} (v : World) (st : State)
-    → Step (stand empty s) (load x a p r) (stand st v.store) → Use h (stand st v.store) → Keeps st v → MatchResult r (λ y. Began s x a p y v) (Unbegun s x a p)
+    → Step (stand empty s) (load x a p r) (stand st v.store) → Use s h (stand st v.store) → Keeps st v → MatchResult r (λ y. Began s x a p y v) (Unbegun s x a p)
 loading v st (load_wrong {e = d} k) u k' = inl (d, k, refl)
 loading v st (load_full {m = m} {y = y} (right d) q) u k' = inr (m, d, y, v.store, q, refl)
 loading {h = h} v st (loads {m = m} (right d) q) u k' = record { model = m; describes = d; told_is = refl; come = record { past = h; led = u; keeps = k'; searched = begun q } }
 
-pub loaded_by : {x a p : List ℕ} {r : Result Verdict Refusal} (s : Shown) (w v : World) → w.store ≡ s → Use [] (stand empty w.store) → Keeps empty w
+pub loaded_by : {x a p : List ℕ} {r : Result Verdict Refusal} (s : Shown) (w v : World) → w.store ≡ s → Keeps empty w
     → Next w (load x a p r) v → MatchResult r (λ y. Began s x a p y v) (Unbegun s x a p)
-loaded_by {x = x} {a = a} {p = p} {r = r} s w v e u k n =
-    let z = n [] empty u k in
+loaded_by {x = x} {a = a} {p = p} {r = r} s w v e k n =
+    let z = n w.store [] empty uses.begun k in
     subst (λ i. MatchResult r (λ y. Began i x a p y v) (Unbegun i x a p)) e (loading v z.0 (last_step z.1) z.1 z.2)
 
 -- an empty session stays so, and is not advanced
@@ -57,17 +57,17 @@ module _ (w v : World) (k : Keeps empty w) where
   asking st asks k = (k, refl)
 
   pub asked_empty : {r : Verdict} → Next w (ask r) v → Keeps empty v × (r ≡ answer.Empty)
-  asked_empty n = let z = n [] empty uses.begun k in asking z.0 (last_step z.1) z.2
+  asked_empty n = let z = n w.store [] empty uses.begun k in asking z.0 (last_step z.1) z.2
 
   refusing : {t : Shown} {x : Stand} {r : Result Verdict Refusal} → Step (stand empty t) (advance r) x → r ≡ Err Empty
   refusing advance_empty = refl
 
   pub refused_empty : {r : Result Verdict Refusal} → Next w (advance r) v → r ≡ Err Empty
-  refused_empty n = refusing (last_step (n [] empty uses.begun k).1)
+  refused_empty n = refusing (last_step (n w.store [] empty uses.begun k).1)
 
 module _ (s : Shown) (m : Model) (j : ℕ) where
   advancing : {t : Shown} {r : Result Verdict Refusal} {h : List Event} (v : World) (st : State)
-      → Step (stand (loaded m j) t) (advance r) (stand st v.store) → Use h (stand st v.store) → Keeps st v
+      → Step (stand (loaded m j) t) (advance r) (stand st v.store) → Use s h (stand st v.store) → Keeps st v
       → Searched m s j t → verdict (system m) j ≡ open_yet → MatchResult r (λ y. Come s m (suc j) v × (y ≡ told (loaded m (suc j)))) (Short s m)
   advancing v st (advance_settled n) u k f o = absurd (n o)
   advancing {t = t} v st (advance_full {y = y} o' q) u k f o = record {
@@ -84,14 +84,14 @@ module _ (s : Shown) (m : Model) (j : ℕ) where
 
   pub advanced_by : {r : Result Verdict Refusal} (w v : World) → Come s m j w → verdict (system m) j ≡ open_yet → Next w (advance r) v
       → MatchResult r (λ y. Come s m (suc j) v × (y ≡ told (loaded m (suc j)))) (Short s m)
-  advanced_by w v c o n = let z = n c.past (loaded m j) c.led c.keeps in advancing v z.0 (last_step z.1) z.1 z.2 c.searched o
+  advanced_by w v c o n = let z = n s c.past (loaded m j) c.led c.keeps in advancing v z.0 (last_step z.1) z.1 z.2 c.searched o
 
-  answering : {t : Shown} {r : Verdict} {h : List Event} (v : World) (st : State) → Step (stand (loaded m j) t) (ask r) (stand st v.store) → Use h (stand st v.store)
+  answering : {t : Shown} {r : Verdict} {h : List Event} (v : World) (st : State) → Step (stand (loaded m j) t) (ask r) (stand st v.store) → Use s h (stand st v.store)
       → Keeps st v → Searched m s j t → Come s m j v × (r ≡ told (loaded m j))
   answering {h = h} v st asks u k f = (record { past = h; led = u; keeps = k; searched = f }, refl)
 
   pub answered_by : {r : Verdict} (w v : World) → Come s m j w → Next w (ask r) v → Come s m j v × (r ≡ told (loaded m j))
-  answered_by w v c n = let z = n c.past (loaded m j) c.led c.keeps in answering v z.0 (last_step z.1) z.1 z.2 c.searched
+  answered_by w v c n = let z = n s c.past (loaded m j) c.led c.keeps in answering v z.0 (last_step z.1) z.1 z.2 c.searched
 
   telling : {t : Shown} {x : Stand} {q : ℕ} {r : Result Bool Refusal} → Step (stand (loaded m j) t) (inside q r) x → verdict (system m) j ≡ safe → q < 2 ^ m.circuit.registers
       → r ≡ Ok (search.inside (system m) j q)
@@ -101,7 +101,7 @@ module _ (s : Shown) (m : Model) (j : ℕ) where
 
   pub told_by : {q : ℕ} {r : Result Bool Refusal} (w v : World) → Come s m j w → verdict (system m) j ≡ safe → Next w (inside q r) v → q < 2 ^ m.circuit.registers
       → r ≡ Ok (search.inside (system m) j q)
-  told_by w v c o n l = telling (last_step (n c.past (loaded m j) c.led c.keeps).1) o l
+  told_by w v c o n l = telling (last_step (n s c.past (loaded m j) c.led c.keeps).1) o l
 
   -- both arrays hold the trace
   pub record Handed (x y x' y' : List ℕ) : Type 0 where
@@ -119,7 +119,7 @@ module _ (s : Shown) (m : Model) (j : ℕ) where
 
   pub handed_by : {x y x' y' : List ℕ} {r : Result (Unit {0}) Refusal} (w v : World) → Come s m j w → verdict (system m) j ≡ unsafe j → Next w (trace x y x' y' r) v
       → suc j ≤ length x → suc j ≤ length y → MatchResult r (λ _. Handed x y x' y') (λ _. ⊥)
-  handed_by w v c o n lx ly = handing (last_step (n c.past (loaded m j) c.led c.keeps).1) o lx ly
+  handed_by w v c o n lx ly = handing (last_step (n s c.past (loaded m j) c.led c.keeps).1) o lx ly
 
   valid_of : (t : Shown) (x : Option Search) → MatchOption x ⊥ (Sets m j t) → Valid m
   valid_of t None k = absurd k

@@ -27,7 +27,7 @@ reported (Err e) = report.Refused e
 -- some use has led the session to B_j, by a search from a store that showed s
 pub record Come (s : Shown) (m : Model) (j : ℕ) (w : World) : Type 0 where
   pub past : List Event
-  pub led : Use past (stand (loaded m j) w.store)
+  pub led : Use s past (stand (loaded m j) w.store)
   pub keeps : Keeps (loaded m j) w
   pub searched : Searched m s j w.store
 

@@ -25,16 +25,16 @@ module _ (w : World) (c : Call) where
   Leads_on st v = (st' : State) × Step (stand st w.store) c (stand st' v.store) × Keeps st' v
 
   pub from_none : (v : World) → w.search ≡ None → Leads_on empty v → Next w c v
-  from_none v e p h empty u k = (p.0, went_on u p.1, p.2)
-  from_none v e p h (loaded m j) u k = absurd (subst (λ o. MatchOption o ⊥ (Sets m j w.store)) e k)
+  from_none v e p s h empty u k = (p.0, went_on u p.1, p.2)
+  from_none v e p s h (loaded m j) u k = absurd (subst (λ o. MatchOption o ⊥ (Sets m j w.store)) e k)
 
   pub stays_none : w.search ≡ None → Step (stand empty w.store) c (stand empty w.store) → Next w c w
   stays_none e p = from_none w e (empty, p, e)
 
   module _ (k : Search) (e : w.search ≡ Some k) where
     pub from_some : (v : World) → ((m : Model) (j : ℕ) → Reached (system m) j → Sets m j w.store k → Leads_on (loaded m j) v) → Next w c v
-    from_some v p h empty u x = never (cc)
-    from_some v p h (loaded m j) u x = let q = p m j (come u).0 (subst (λ o. MatchOption o ⊥ (Sets m j w.store)) e x) in (q.0, went_on u q.1, q.2)
+    from_some v p s h empty u x = never (cc)
+    from_some v p s h (loaded m j) u x = let q = p m j (come u).0 (subst (λ o. MatchOption o ⊥ (Sets m j w.store)) e x) in (q.0, went_on u q.1, q.2)
 
     pub stays_some : ((m : Model) (j : ℕ) → Reached (system m) j → Sets m j w.store k → Step (stand (loaded m j) w.store) c (stand (loaded m j) w.store)) → Next w c w
     stays_some p = from_some w (λ m j r x. (loaded m j, p m j r x, subst (λ o. MatchOption o ⊥ (Sets m j w.store)) (sym e) x))
@@ -76,4 +76,4 @@ told_by now P (loaded m j) w None v e q f h = absurd (subst (λ o. MatchOption o
 told_by now P (loaded m j) w (Some k) v e q f h = f k q ∙ (subst (λ o. MatchOption o ⊥ (Sets m j w.store)) (sym e) h).verdict
 
 pub asked : (w : World) (r : Verdict) → ((st : State) → Keeps st w → r ≡ told st) → Next w (ask r) w
-asked w r f h st u k = let x = stand st w.store in (st, subst (λ a. Use (event x (ask a) x ∷ h) x) (sym (f st k)) (went_on u asks), k)
+asked w r f s h st u k = let x = stand st w.store in (st, subst (λ a. Use s (event x (ask a) x ∷ h) x) (sym (f st k)) (went_on u asks), k)

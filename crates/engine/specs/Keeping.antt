@@ -42,7 +42,12 @@ abbrev pub Keeps : State → World → Type 0
 Keeps empty w = w.search ≡ None
 Keeps (loaded m j) w = MatchOption w.search ⊥ (Sets m j w.store)
 
--- the call leads every use that led to w on to v, and adds just this event
+-- the call leads every use that led to w on to v, from the same start, and adds just this event
 abbrev pub Next : World → Call → World → Type 0
-Next w c v = (h : List Event) (st : State) → Use h (stand st w.store) → Keeps st w
-    → (st' : State) × Use (event (stand st w.store) c (stand st' v.store) ∷ h) (stand st' v.store) × Keeps st' v
+Next w c v =
+    (start : Shown) (history : List Event) (state : State)
+    → Use start history (stand state w.store)
+    → Keeps state w
+    → (state' : State)
+    × Use start (event (stand state w.store) c (stand state' v.store) ∷ history) (stand state' v.store)
+    × Keeps state' v

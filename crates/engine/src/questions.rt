@@ -1,5 +1,6 @@
 // A new session, its store handed back, its verdict, and which states its last set does not hold.
 ghost use Rattle.std.specs.Prelude.{◌≡◌, List, []};
+ghost use Rattle.store.specs.Meaning.{Shown};
 ghost use Rattle.uses.specs.Calls.{State, empty, stand, Event, ask, inside};
 ghost use Rattle.uses.specs.Promise.{Promise};
 ghost use Rattle.uses.specs.Uses.{Use};
@@ -15,7 +16,7 @@ impl<S: Store> Session<S> {
     // An empty session over a store, whatever that holds.
     pub fn new(store: S) -> Session<S>
         ensures store { (world S.Store.shows result).store ≡ S.Store.shows store }
-        ensures begun { Use [] (stand empty (world S.Store.shows result).store) }
+        ensures begun { Use (S.Store.shows store) [] (stand empty (world S.Store.shows result).store) }
         ensures keeps { Keeps empty (world S.Store.shows result) }
     {
         Session {
@@ -34,7 +35,7 @@ impl<S: Store> Session<S> {
     // The verdict, and with it what any use that led here comes to.
     // No `Option`: `Empty` is a verdict of the rules, which a session answers before a load.
     pub fn verdict(&mut self) -> Verdict
-        ensures promise { (h : List Event) (st : State) → Use h (stand st (world S.Store.shows self.old).store) → Keeps st (world S.Store.shows self.old) → Promise h st result }
+        ensures promise { (start : Shown) (history : List Event) (state : State) → Use start history (stand state (world S.Store.shows self.old).store) → Keeps state (world S.Store.shows self.old) → Promise start history state result }
         ensures next { Next (world S.Store.shows self.old) (ask result) (world S.Store.shows self.new) }
         ensures same { self.new ≡ self.old }
     {

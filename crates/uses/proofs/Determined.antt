@@ -19,7 +19,7 @@ One v v' c c' = ((c ≡ c') × (v.state ≡ v'.state)) ⊎ (Full c ⊎ Full c')
 
 load_one : {w v v' : Stand} {x a p : List ℕ} {r r' : Result Verdict Fault} → Step w (load x a p r) v → Step w (load x a p r') v' → One v v' (load x a p r) (load x a p r')
 load_one load_twice load_twice = inl (refl, refl)
-load_one (load_wrong {x = x} {a = a} {p = p} {e = e} k) (load_wrong {e = e'} k') =
+load_one (load_wrong {file = x} {a = a} {p = p} {e = e} k) (load_wrong {e = e'} k') =
     let h = one_check k k' in
     let i : e ≡ e' = cc in
     inl (ap (λ f. load x a p (Err (Description f))) i, refl)
@@ -28,7 +28,7 @@ load_one (load_wrong k) (loads k' t) = let h = one_check k k' in never (cc)
 load_one (load_full k q) s = inr (inl (full_load _ _ _ _ _ _))
 load_one (loads k t) (load_wrong k') = let h = one_check k k' in never (cc)
 load_one (loads k t) (load_full k' q) = inr (inr (full_load _ _ _ _ _ _))
-load_one (loads {x = x} {a = a} {p = p} {m = m} k t) (loads {m = m'} k' t') =
+load_one (loads {file = x} {a = a} {p = p} {m = m} k t) (loads {m = m'} k' t') =
     let h = one_check k k' in
     let i : m ≡ m' = cc in
     inl (ap (λ n. load x a p (Ok (told (loaded n 0)))) i, ap (λ n. loaded n 0) i)
@@ -86,4 +86,4 @@ by_call h g (both_trace x y x₁ y₁ x₂ y₂ r r') s s' = trace_one h g s s'
 by_call h g (both_inside q r r') s s' = inside_one s s'
 
 pub determined : Determined
-determined h w v v' c c' u like s s' = by_call h (come u) like s s'
+determined start h w v v' c c' u like s s' = by_call h (come u) like s s'

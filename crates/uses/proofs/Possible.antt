@@ -76,7 +76,7 @@ module _ (s : Shown) where
       by open_yet e = (_, _, inside_verdict (λ o. never (cc)))
 
 pub possible : Possible
-possible h w u = record {
+possible s h w u = record {
   to_load = to_load w.store w.state;
   to_advance = to_advance w.store w.state;
   to_ask = (_, _, asks);

@@ -66,9 +66,9 @@ fair_step h {w = w} {v = v} s g = record {
   traced = λ x y x' y' e. traced h g (subst (λ i. Step w i v) e s);
 }
 
-fair : {h : List Event} {w : Stand} → Use h w → Every Fair h
+fair : {s : Shown} {h : List Event} {w : Stand} → Use s h w → Every Fair h
 fair begun = none
-fair (went_on {h = h} u s) = each (fair_step h s (come u)) (fair u)
+fair (went_on {history = h} u s) = each (fair_step h s (come u)) (fair u)
 
 meant : (m : Model) (j : ℕ) → Meaning (system m) j → Meant m j (told (loaded m j))
 meant m j y = record {
@@ -83,4 +83,4 @@ says h empty g = refl
 says h (loaded m j) g = (g.1, meant m j (verdicts (system m) (closed m) j g.0))
 
 pub promised : Promised
-promised h w u = record { fair = fair u; says = says h w.state (come u) }
+promised s h w u = record { fair = fair u; says = says h w.state (come u) }

@@ -1,5 +1,6 @@
 -- What holds of each state that a use leads to.
 use Rattle.std.proofs.Common.{◌≡◌, ℕ, suc, ◌<◌, ◌≤◌, List, ◌∷◌, sym, refl, subst, ⊎_elim, eq-or-lt_of_le, arith}
+use Rattle.store.specs.Meaning.{Shown}
 use Rattle.runs.specs.Systems.{System, Closed}
 use Rattle.runs.specs.Search.{open_yet, verdict, Reached}
 use Rattle.runs.specs.Models.{Model, system}
@@ -45,6 +46,6 @@ come_step h (inside_verdict n) g = (g.0, omega (arith, g.1))
 come_step h (inside_state o l) g = (g.0, omega (arith, g.1))
 come_step h (insides o l) g = (g.0, omega (arith, g.1))
 
-pub come : {h : List Event} {w : Stand} → Use h w → Come h w.state
+pub come : {s : Shown} {h : List Event} {w : Stand} → Use s h w → Come h w.state
 come begun = refl
-come (went_on {h = h} u s) = come_step h s (come u)
+come (went_on {history = h} u s) = come_step h s (come u)

@@ -71,9 +71,12 @@ Says h empty r = r ≡ verdict.Empty
 Says h (loaded m j) r = (j ≡ accepted h) × Meant m j r
 
 -- every call of the use was fair, and the verdict means what it says
-pub record Promise (h : List Event) (st : State) (r : Verdict) : Type 0 where
-  pub fair : Every Fair h
-  pub says : Says h st r
+pub record Promise (start : Shown) (history : List Event) (state : State) (answer : Verdict) : Type 0 where
+  pub fair : Every Fair history
+  pub says : Says history state answer
 
 abbrev pub Promised : Type 0
-Promised = (h : List Event) (w : Stand) → Use h w → Promise h w.state (told w.state)
+Promised =
+    (start : Shown) (history : List Event) (end : Stand)
+    → Use start history end
+    → Promise start history end.state (told end.state)

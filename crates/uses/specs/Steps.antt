@@ -27,7 +27,7 @@ pub data Full : Call → Type 0 where
 
 -- after any use, a call with its arguments has one answer, hands back one pair of arrays and leaves one state, unless it is refused for room
 abbrev pub Determined : Type 0
-Determined = (h : List Event) (w v v' : Stand) (c c' : Call) → Use h w → Alike c c' → Step w c v → Step w c' v'
+Determined = (s : Shown) (h : List Event) (w v v' : Stand) (c c' : Call) → Use s h w → Alike c c' → Step w c v → Step w c' v'
     → ((c ≡ c') × (v.state ≡ v'.state)) ⊎ (Full c ⊎ Full c')
 
 -- the store accepts all of the list, or refuses a call of it for room
@@ -45,4 +45,4 @@ pub record Goes_on (w : Stand) : Type 0 where
   pub to_inside : (q : ℕ) → (r : Result Bool Fault) × (v : Stand) × Step w (inside q r) v
 
 abbrev pub Possible : Type 0
-Possible = (h : List Event) (w : Stand) → Use h w → Goes_on w
+Possible = (s : Shown) (h : List Event) (w : Stand) → Use s h w → Goes_on w

@@ -20,7 +20,7 @@ pub returns-in_err-load : goal.returns-in_err-load
 returns-in_err-load g c =
     let s = g.S.Store.shows c.args.store in
     let n = c.new-session.ensures in
-    let b = loaded_by s (world g.S.Store.shows c.new-session.result) (world g.S.Store.shows c.load.new.self) n.store n.begun n.keeps c.in_err-load.ensures.next in
+    let b = loaded_by s (world g.S.Store.shows c.new-session.result) (world g.S.Store.shows c.load.new.self) n.store n.keeps c.in_err-load.ensures.next in
     refuses s c.args.job.now c.from_residual-in_err-load.result (Call c.in_err-load.field-0.0) c.from_residual-in_err-load.ensures.1
     (not_begun s c.args.job.now (parts c.in_ok-source.source) (sym c.in_ok-source.ensures) c.in_err-load.field-0.0 b)
 
@@ -28,7 +28,7 @@ pub returns-in_err-settled : goal.returns-in_err-settled
 returns-in_err-settled g c =
     let s = g.S.Store.shows c.args.store in
     let n = c.new-session.ensures in
-    let b = loaded_by s (world g.S.Store.shows c.new-session.result) (world g.S.Store.shows c.load.new.self) n.store n.begun n.keeps c.in_ok-load.ensures.next in
+    let b = loaded_by s (world g.S.Store.shows c.new-session.result) (world g.S.Store.shows c.load.new.self) n.store n.keeps c.in_ok-load.ensures.next in
     refuses s c.args.job.now c.from_residual-in_err-settled.result (Call c.in_err-settled.field-0.0) c.from_residual-in_err-settled.ensures.1
     (not_settled s c.args.job.now (parts c.in_ok-source.source) (sym c.in_ok-source.ensures) b.model b.describes c.in_err-settled.field-0.0
     (c.in_err-settled.ensures.settles s b.model b.come))
@@ -37,14 +37,14 @@ pub conclude-requires : goal.conclude-requires
 conclude-requires g c =
     let s = g.S.Store.shows c.args.store in
     let n = c.new-session.ensures in
-    let b = loaded_by s (world g.S.Store.shows c.new-session.result) (world g.S.Store.shows c.load.new.self) n.store n.begun n.keeps c.in_ok-load.ensures.next in
+    let b = loaded_by s (world g.S.Store.shows c.new-session.result) (world g.S.Store.shows c.load.new.self) n.store n.keeps c.in_ok-load.ensures.next in
     few_registers s.vars c.in_ok-source.source.circuit.now b.model.circuit b.describes.circuit
 
 pub returns-in_err-conclude : goal.returns-in_err-conclude
 returns-in_err-conclude g c =
     let s = g.S.Store.shows c.args.store in
     let n = c.new-session.ensures in
-    let b = loaded_by s (world g.S.Store.shows c.new-session.result) (world g.S.Store.shows c.load.new.self) n.store n.begun n.keeps c.in_ok-load.ensures.next in
+    let b = loaded_by s (world g.S.Store.shows c.new-session.result) (world g.S.Store.shows c.load.new.self) n.store n.keeps c.in_ok-load.ensures.next in
     let e = c.in_ok-settled.ensures.settles s b.model b.come in
     absurd (c.in_err-conclude.ensures s b.model e (sizes_are s.vars c.in_ok-source.source.circuit.now b.model.circuit b.describes.circuit))
 
@@ -52,7 +52,7 @@ pub returns : goal.returns
 returns g c =
     let s = g.S.Store.shows c.args.store in
     let n = c.new-session.ensures in
-    let b = loaded_by s (world g.S.Store.shows c.new-session.result) (world g.S.Store.shows c.load.new.self) n.store n.begun n.keeps c.in_ok-load.ensures.next in
+    let b = loaded_by s (world g.S.Store.shows c.new-session.result) (world g.S.Store.shows c.load.new.self) n.store n.keeps c.in_ok-load.ensures.next in
     let e = c.in_ok-settled.ensures.settles s b.model b.come in
     concluded s c.args.job.now (parts c.in_ok-source.source) (sym c.in_ok-source.ensures) b.model b.describes _ _ _ e.come.searched
     (c.in_ok-conclude.ensures s b.model e (sizes_are s.vars c.in_ok-source.source.circuit.now b.model.circuit b.describes.circuit))
