@@ -35,7 +35,10 @@ impl<S: Store> Session<S> {
     // The verdict, and with it what any use that led here comes to.
     // No `Option`: `Empty` is a verdict of the rules, which a session answers before a load.
     pub fn verdict(&mut self) -> Verdict
-        ensures promise { (start : Shown) (history : List Event) (state : State) → Use start history (stand state (world S.Store.shows self.old).store) → Keeps state (world S.Store.shows self.old) → Promise start history state result }
+        ensures promise { (start : Shown) (history : List Event) (state : State)
+            → Use start history (stand state (world S.Store.shows self.old).store)
+            → Keeps state (world S.Store.shows self.old)
+            → Promise start history state result }
         ensures next { Next (world S.Store.shows self.old) (ask result) (world S.Store.shows self.new) }
         ensures same { self.new ≡ self.old }
     {
