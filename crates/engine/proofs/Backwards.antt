@@ -15,7 +15,3 @@ module _ {A : Type 0} (all rest done left : List A) (a : A) (step : rest ≡ lef
 
   pub in_all : length left + suc (length done) ≡ length all
   in_all = omega (arith, ap length back_one, length-append left (a ∷ done))
-
--- at its start
-pub in_whole : {A : Type 0} (all rest done : List A) → rest ++ done ≡ all → length rest ≡ 0 → length done ≡ length all
-in_whole all rest done split none = omega (arith, ap length split, length-append rest done)

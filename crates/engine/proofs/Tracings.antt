@@ -1,23 +1,11 @@
 -- The trace, as it grows step by step.
-use Rattle.std.proofs.Common.{◌≡◌, ℕ, zero, suc, ◌-◌, ◌^◌, ◌<◌, ◌≤◌, List, [], ◌∷◌, ◌++◌, map, length, get_or, sym, refl, ap, ap₂, ◌∙◌, subst, ⊎_elim, eq-or-lt_of_le, arith}
-use Rattle.std.proofs.Math.Seq.{get_or-append_seam}
-use Rattle.std.proofs.lemmas.List.{get_or_append_left, length-append, length-map, map-append}
+use Rattle.std.proofs.Common.{◌≡◌, ℕ, zero, suc, ◌+◌, ◌-◌, ◌^◌, ◌<◌, ◌≤◌, List, set, length, get_or, sym, refl, ap, ap₂, ◌∙◌, subst, ⊎_elim, eq-or-lt_of_le, add-one, arith}
+use Rattle.std.proofs.lemmas.List.{get_or-set_same, get_or-set_other}
 use Rattle.runs.specs.Search.{faulty, leads_into, bad, initial_in, Least, TraceTo, Trace}
 use Rattle.runs.specs.Systems.{System, State, Closed}
-use Rattle.engine.specs.declared.step.Step.{Step}
 
 abbrev pub at : List ℕ → ℕ → ℕ
 at xs t = get_or xs t 0
-
--- the states of some steps and the one after them, and the inputs of the steps
-abbrev pub states_of : List Step → List ℕ
-states_of xs = map (λ x. x.state) xs
-
-abbrev pub inputs_of : List Step → List ℕ
-inputs_of xs = map (λ x. x.input) xs
-
-abbrev pub states_to : List Step → ℕ → List ℕ
-states_to xs q = states_of xs ++ q ∷ []
 
 module _ (s : System) (d : ℕ) where
   -- other sequences with the same start
@@ -45,47 +33,47 @@ module _ (s : System) (d : ℕ) where
   traced_state closed t q v l zero h = l.start.below
   traced_state closed t q v l (suc i) h = rw (l.moves i h) (closed (q i) (v i) (traced_state closed t q v l i (omega arith)) (l.inputs i h).below)
 
-  pub starts : (q : ℕ) → Least (2 ^ s.registers) (initial_in s (bad s d)) q → TraceTo s d 0 (at (states_to [] q)) (at (inputs_of []))
-  starts q l = record { start = l; inputs = λ i h. absurd (omega arith); moves = λ i h. absurd (omega arith) }
+  -- the first state was written
+  pub starts : (xs ys : List ℕ) (q : ℕ) → 0 < length xs → Least (2 ^ s.registers) (initial_in s (bad s d)) q → TraceTo s d 0 (at (set xs 0 q)) (at ys)
+  starts xs ys q b l = record {
+    start = subst (Least (2 ^ s.registers) (initial_in s (bad s d))) (sym (get_or-set_same xs 0 q 0 b)) l;
+    inputs = λ i h. absurd (omega arith);
+    moves = λ i h. absurd (omega arith);
+  }
 
-  module _ (t : ℕ) (xs : List Step) (q : ℕ) (e : length xs ≡ t) (l : TraceTo s d t (at (states_to xs q)) (at (inputs_of xs))) where
-    pub last_state : at (states_to xs q) t ≡ q
-    last_state = ap (at (states_to xs q)) (sym (length-map xs (λ x. x.state) ∙ e)) ∙ get_or-append_seam (states_of xs) q [] 0
+  module _ (t : ℕ) (xs ys : List ℕ) (l : TraceTo s d t (at xs) (at ys)) where
+    pub state_now : Closed s → State s (at xs t)
+    state_now closed = traced_state closed t (at xs) (at ys) l t (omega arith)
 
-    -- after one step more, the states and the inputs before it
-    states_before : (r : ℕ) (i : ℕ) → i ≤ t → at (states_to xs q) i ≡ at (states_to xs q ++ r ∷ []) i
-    states_before r i h = sym (get_or_append_left (states_to xs q) (r ∷ []) 0 i (omega (arith, length-append (states_of xs) (q ∷ []), length-map xs (λ x. x.state))))
+    -- an input that was written leaves those before it
+    inputs_before : (v : ℕ) (i : ℕ) → i < t → at ys i ≡ at (set ys t v) i
+    inputs_before v i h = sym (get_or-set_other ys t i v 0 (λ e. absurd (omega arith)))
 
-    inputs_before : (v : ℕ) (i : ℕ) → i < t → at (inputs_of xs) i ≡ at (inputs_of xs ++ v ∷ []) i
-    inputs_before v i h = sym (get_or_append_left (inputs_of xs) (v ∷ []) 0 i (omega (arith, length-map xs (λ x. x.input))))
+    -- a state that was written leaves those before it
+    states_before : (r : ℕ) (i : ℕ) → i ≤ t → at xs i ≡ at (set xs (t + 1) r) i
+    states_before r i h = sym (get_or-set_other xs (t + 1) i r 0 (λ e. absurd (omega arith)))
 
-    last_input : (v : ℕ) → at (inputs_of xs ++ v ∷ []) t ≡ v
-    last_input v = ap (at (inputs_of xs ++ v ∷ [])) (sym (length-map xs (λ x. x.input) ∙ e)) ∙ get_or-append_seam (inputs_of xs) v [] 0
+    -- an input and the next state were written
+    pub steps : (v r : ℕ) → t + 1 < length xs → t < length ys → Least (2 ^ s.inputs) (leads_into s (bad s (d - t - 1)) (at xs t)) v → r ≡ s.next (at xs t) v
+        → TraceTo s d (suc t) (at (set xs (t + 1) r)) (at (set ys t v))
+    steps v r bx by a n = traced_more t _ _
+        (traced_like t (at xs) (at ys) _ _ (states_before r) (inputs_before v) l)
+        (subst (λ q. Least (2 ^ s.inputs) (leads_into s (bad s (d - t - 1)) q) (at (set ys t v) t)) now
+        (subst (Least (2 ^ s.inputs) (leads_into s (bad s (d - t - 1)) (at xs t))) (sym read) a))
+        (state_next ∙ n ∙ ap₂ s.next now (sym read))
+      where
+        now : at xs t ≡ at (set xs (t + 1) r) t
+        now = states_before r t (omega arith)
 
-    pub state_now : Closed s → State s q
-    state_now closed = subst (State s) last_state (traced_state closed t (at (states_to xs q)) (at (inputs_of xs)) l t (omega arith))
+        read : at (set ys t v) t ≡ v
+        read = get_or-set_same ys t v 0 by
 
-    module _ (v : ℕ) where
-      abbrev step : Step
-      step = record { state = q; input = v }
+        state_next : at (set xs (t + 1) r) (suc t) ≡ r
+        state_next = ap (at (set xs (t + 1) r)) (sym (add-one t)) ∙ get_or-set_same xs (t + 1) r 0 bx
 
-      pub steps : (r : ℕ) → Least (2 ^ s.inputs) (leads_into s (bad s (d - t - 1)) q) v → r ≡ s.next q v
-          → TraceTo s d (suc t) (at (states_to (xs ++ step ∷ []) r)) (at (inputs_of (xs ++ step ∷ [])))
-      steps r a n = rw (map-append (λ x. x.state) xs (step ∷ []), map-append (λ x. x.input) xs (step ∷ []))
-          (traced_more t _ _ (traced_like t (at (states_to xs q)) (at (inputs_of xs)) _ _ (states_before r) (inputs_before v) l)
-          (subst (λ k. Least (2 ^ s.inputs) (leads_into s (bad s (d - t - 1)) k) (at (inputs_of xs ++ v ∷ []) t)) now
-          (subst (Least (2 ^ s.inputs) (leads_into s (bad s (d - t - 1)) q)) (sym (last_input v)) a))
-          (state_next ∙ n ∙ ap₂ s.next now (sym (last_input v))))
-        where
-          now : q ≡ at (states_to xs q ++ r ∷ []) t
-          now = sym last_state ∙ states_before r t (omega arith)
-
-          state_next : at (states_to xs q ++ r ∷ []) (suc t) ≡ r
-          state_next = ap (at (states_to xs q ++ r ∷ [])) (omega (arith, length-append (states_of xs) (q ∷ []), length-map xs (λ x. x.state))) ∙ get_or-append_seam (states_to xs q) r [] 0
-
-      pub finishes : t ≡ d → Least (2 ^ s.inputs) (faulty s q) v → Trace s d (at (states_of (xs ++ step ∷ []))) (at (inputs_of (xs ++ step ∷ [])))
-      finishes e a = rw (map-append (λ x. x.state) xs (step ∷ []), map-append (λ x. x.input) xs (step ∷ [])) (record {
-        steps = subst (λ n. TraceTo s d n (at (states_to xs q)) (at (inputs_of xs ++ v ∷ []))) e (traced_like t (at (states_to xs q)) (at (inputs_of xs)) _ _ (λ i h. refl) (inputs_before v) l);
-        last = subst (λ n. Least (2 ^ s.inputs) (faulty s (at (states_to xs q) n)) (at (inputs_of xs ++ v ∷ []) n)) e
-            (rw (last_state, last_input v) a);
-      })
+    -- the last input was written
+    pub finishes : (v : ℕ) → t ≡ d → t < length ys → Least (2 ^ s.inputs) (faulty s (at xs t)) v → Trace s d (at xs) (at (set ys t v))
+    finishes v e b a = subst (λ n. TraceTo s d n (at xs) (at (set ys t v)) → Least (2 ^ s.inputs) (faulty s (at xs n)) (at (set ys t v) n) → Trace s d (at xs) (at (set ys t v))) (sym e)
+        (λ x y. record { steps = x; last = y })
+        (traced_like t (at xs) (at ys) _ _ (λ i h. refl) (inputs_before v) l)
+        (subst (Least (2 ^ s.inputs) (faulty s (at xs t))) (sym (get_or-set_same ys t v 0 b)) a)

@@ -1,5 +1,6 @@
 -- What the searches of a trace come to where the sets are kept.
-use Rattle.std.proofs.Common.{◌≡◌, ℕ, ◌^◌, ◌<◌, Bool, true, Ok, Err, Result, sym, ap, ◌∙◌, subst}
+use Rattle.std.proofs.Common.{◌≡◌, ℕ, suc, ◌^◌, ◌<◌, ◌≤◌, Bool, true, List, set, Ok, Err, Result, refl, sym, ap, ◌∙◌, subst, arith}
+use Rattle.std.proofs.lemmas.List.{length-set, drop-set-lt}
 use Rattle.std.proofs.lemmas.Bool.{both_ways}
 use Rattle.std.specs.Borrow.{MutBor}
 use Rattle.store.specs.Fun.{some}
@@ -14,7 +15,7 @@ use Rattle.runs.specs.Valuations.{set_fn}
 use Rattle.runs.proofs.Some.{none_found}
 use Rattle.engine.specs.declared.search.Search.{Search}
 use Rattle.engine.specs.Keeping.{Sets}
-use Rattle.engine.specs.Questions.{Readable, GoesTo, Begins, Leads, Faults, Finds, Telling}
+use Rattle.engine.specs.Questions.{Readable, GoesTo, Begins, Leads, Faults, Finds, Telling, Spares}
 use Rattle.engine.proofs.Keepings.{readable}
 
 -- what is found, and that something is
@@ -58,3 +59,32 @@ module _ (m : Model) (j : ℕ) (s : Shown) (k : Search) (h : Sets m j s k) where
       fault q =
           let n = e ∙ ap (λ n. 2 ^ n) h.inputs in
           subst (λ n. Finds n (faulty (system m) y) r) n (finds _ (λ p b x o z l c. q p b x o c m (known _ z) ly (subst (λ i. x < i) n l)))
+
+-- what a write leaves of both arrays
+module _ (d : ℕ) (x y : List ℕ) where
+  pub spares_none : Spares d x y x y
+  spares_none = record { states_long = refl; inputs_long = refl; states_after = refl; inputs_after = refl }
+
+  pub spares_both : (x' y' x'' y'' : List ℕ) → Spares d x y x' y' → Spares d x' y' x'' y'' → Spares d x y x'' y''
+  spares_both x' y' x'' y'' p q = record {
+    states_long = q.states_long ∙ p.states_long;
+    inputs_long = q.inputs_long ∙ p.inputs_long;
+    states_after = q.states_after ∙ p.states_after;
+    inputs_after = q.inputs_after ∙ p.inputs_after;
+  }
+
+  pub spares_state : (x' y' : List ℕ) (i v : ℕ) → i ≤ d → Spares d x y x' y' → Spares d x y (set x' i v) y'
+  spares_state x' y' i v l p = record {
+    states_long = length-set x' i v ∙ p.states_long;
+    inputs_long = p.inputs_long;
+    states_after = drop-set-lt (suc d) x' i v (omega (arith, l)) ∙ p.states_after;
+    inputs_after = p.inputs_after;
+  }
+
+  pub spares_input : (x' y' : List ℕ) (i v : ℕ) → i ≤ d → Spares d x y x' y' → Spares d x y x' (set y' i v)
+  spares_input x' y' i v l p = record {
+    states_long = p.states_long;
+    inputs_long = length-set y' i v ∙ p.inputs_long;
+    states_after = p.states_after;
+    inputs_after = drop-set-lt (suc d) y' i v (omega (arith, l)) ∙ p.inputs_after;
+  }

@@ -1,7 +1,7 @@
 -- What the questions of a session promise one another: s is what the store shows.
-use Rattle.std.specs.Prelude.{◌≡◌, ℕ, ◌+◌, ◌*◌, ◌^◌, ◌<◌, ◌≤◌, Bool, false, Ok, Err, Result, map, slice_index}
+use Rattle.std.specs.Prelude.{◌≡◌, ℕ, suc, ◌*◌, ◌+◌, ◌^◌, ◌<◌, ◌≤◌, Bool, false, List, length, drop, Option, None, Some, Ok, Err, Result, slice_index}
+use Rattle.arrayvec.specs.ArrayVec.{array_vec_len}
 use Rattle.std.specs.Borrow.{MutBor}
-use Rattle.arrayvec.specs.ArrayVec.{ArrayVec, array_vec_len}
 use Rattle.store.specs.Fun.{Fn}
 use Rattle.store.specs.Meaning.{Shown}
 use Rattle.making.specs.declared.fault.Fault.{Fault}
@@ -14,7 +14,6 @@ use Rattle.runs.specs.Models.{Model, system, Valid}
 use Rattle.runs.specs.Search.{faulty, leads_into, bad, initial_in, unsafe, verdict, Reached, Least, Trace}
 use Rattle.runs.specs.Systems.{State, Input}
 use Rattle.engine.specs.declared.search.Search.{Search}
-use Rattle.engine.specs.declared.step.Step.{Step}
 use Rattle.engine.specs.Keeping.{Sets}
 
 -- the numbers are those of the model's claims, Init and next values
@@ -57,15 +56,22 @@ abbrev pub Finds : ℕ → (ℕ → Bool) → Result ℕ Fault → Type 0
 Finds n f (Ok x) = Least n f x
 Finds n f (Err e) = (x : ℕ) → x < n → f x ≡ false
 
--- the steps of a trace of depth d
-abbrev pub TracedBy : Model → ℕ → Result (ArrayVec Step) Fault → Type 0
-TracedBy m d (Ok xs) = Trace (system m) d (λ t. slice_index (map (λ x. x.state) xs.items) t) (λ t. slice_index (map (λ x. x.input) xs.items) t)
-TracedBy m d (Err e) = ⊥
+-- both arrays are as long as before, and past entry d they are as they were
+pub record Spares (d : ℕ) (x y x' y' : List ℕ) : Type 0 where
+  pub states_long : length x' ≡ length x
+  pub inputs_long : length y' ≡ length y
+  pub states_after : drop (suc d) x' ≡ drop (suc d) x
+  pub inputs_after : drop (suc d) y' ≡ drop (suc d) y
 
--- a step for each set
-abbrev pub Covers : Search → ArrayVec Step → Type 0
-Covers k xs = array_vec_len xs ≡ array_vec_len k.earlier + 1
+-- a session that is empty leaves both arrays as they are
+abbrev pub Spared : Option Search → List ℕ → List ℕ → List ℕ → List ℕ → Type 0
+Spared None x y x' y' = (x' ≡ x) × (y' ≡ y)
+Spared (Some k) x y x' y' = Spares (array_vec_len k.earlier) x y x' y'
 
--- where the sets are kept and the last verdict is unsafe
-abbrev pub Walks : Shown → Search → Result (ArrayVec Step) Fault → Type 0
-Walks s k r = (m : Model) (j : ℕ) → Sets m j s k → Reached (system m) j → verdict (system m) j ≡ unsafe j → TracedBy m j r
+-- where the sets are kept and the last verdict is unsafe, the starts of both arrays are the trace
+abbrev pub Walks : Shown → Search → Result (Unit {0}) Fault → List ℕ → List ℕ → Type 0
+Walks s k r x' y' = (m : Model) (j : ℕ)
+    → Sets m j s k
+    → Reached (system m) j
+    → verdict (system m) j ≡ unsafe j
+    → (r ≡ Ok tt) × Trace (system m) j (slice_index x') (slice_index y')

@@ -1,48 +1,56 @@
 // The trace of an unsafe verdict.
-ghost use Rattle.std.specs.Prelude.{◌≡◌, IfOk};
+ghost use Rattle.std.specs.Prelude.{◌≡◌, ◌<◌, length};
+ghost use Rattle.arrayvec.specs.ArrayVec.{array_vec_len};
 ghost use Rattle.uses.specs.Calls.{trace};
 ghost use Rattle.engine.specs.Keeping.{world, Next};
-ghost use Rattle.engine.specs.Questions.{Covers, Walks};
+ghost use Rattle.engine.specs.Questions.{Spares, Spared, Walks};
 
 use super::finding::smallest;
-use super::search::{MOST_STEPS, Search};
+use super::search::Search;
 use super::session::Session;
 use super::step::Step;
-use arrayvec::ArrayVec;
 use making::fault::Fault;
 use store::Store;
 use uses::verdict::Verdict;
 
 impl Search {
     // From the smallest initial state in the last set, through the sets before it, to the smallest input at fault.
-    fn walk<S: Store>(&self, store: &mut S) -> Result<ArrayVec<Step, MOST_STEPS>, Fault>
+    fn walk<S: Store>(
+        &self,
+        store: &mut S,
+        states: &mut [u16],
+        inputs: &mut [u16],
+    ) -> Result<(), Fault>
+        requires states_fit { array_vec_len self.now.earlier < length states.now }
+        requires inputs_fit { array_vec_len self.now.earlier < length inputs.now }
         ensures same { S.Store.shows store.new ≡ S.Store.shows store.old }
-        ensures covers { IfOk result (Covers self.now) }
-        ensures walks { Walks (S.Store.shows store.old) self.now result }
+        ensures spares { Spares (array_vec_len self.now.earlier) states.old inputs.old states.new inputs.new }
+        ensures walks { Walks (S.Store.shows store.old) self.now result states.new inputs.new }
     {
-        let mut steps = ArrayVec::new();
-        let mut state = smallest(
+        let depth = self.earlier.len();
+        states[0] = smallest(
             store,
             self.states(),
             |store, state| self.begins_in(store, self.last.set, state),
         )?;
-        for &set in self.earlier.iter().rev() {
+        for t in 0..depth {
+            let state = states[t];
+            let set = self.earlier[depth - t - 1];
             let input = smallest(
                 store,
                 self.inputs(),
                 |store, input| self.leads_into(store, set, Step { state, input }),
             )?;
-            let step = Step { state, input };
-            steps.push(step);
-            state = self.next_state(store, step)?;
+            inputs[t] = input;
+            states[t + 1] = self.next_state(store, Step { state, input })?;
         }
-        let input = smallest(
+        let state = states[depth];
+        inputs[depth] = smallest(
             store,
             self.inputs(),
             |store, input| self.at_fault(store, Step { state, input }),
         )?;
-        steps.push(Step { state, input });
-        Ok(steps)
+        Ok(())
     }
 }
 
@@ -52,6 +60,7 @@ impl<S: Store> Session<S> {
     pub fn trace(&mut self, states: &mut [u16], inputs: &mut [u16]) -> Result<(), Fault>
         ensures next { Next (world S.Store.shows self.old) (trace states.old inputs.old states.new inputs.new result) (world S.Store.shows self.new) }
         ensures same { world S.Store.shows self.new ≡ world S.Store.shows self.old }
+        ensures spares { Spared self.old.search states.old inputs.old states.new inputs.new }
     {
         let search = self.search.as_ref().ok_or(Fault::Empty)?;
         let Verdict::Unsafe(_) = search.last.verdict else {
@@ -63,12 +72,6 @@ impl<S: Store> Session<S> {
                 needed: entries as u16,
             });
         }
-        let steps = search.walk(&mut self.store)?;
-        // By index: of a `zip` with two `iter_mut`, `returns-clause-next` stayed open, since after it only the arrays' lengths are known.
-        for (i, step) in steps.iter().enumerate() {
-            states[i] = step.state;
-            inputs[i] = step.input;
-        }
-        Ok(())
+        search.walk(&mut self.store, states, inputs)
     }
 }
