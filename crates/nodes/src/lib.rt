@@ -4,7 +4,7 @@
 ghost use Rattle.std.specs.Prelude.{◌≡◌};
 ghost use Rattle.nodes.specs.Graph.{child};
 ghost use Rattle.nodes.specs.Hash.{mixed};
-ghost use Rattle.nodes.specs.Identity.{node_exact};
+ghost use Rattle.nodes.specs.Identity.{alike_mixed};
 
 use records::entry::Entry;
 
@@ -23,10 +23,10 @@ pub const GOLDEN: u64 = 0x9e37_79b9_7f4a_7c15;
 impl Entry for Node {
     ghost hashed = { λ x. mixed x };
 
-    ghost exact = { node_exact };
+    ghost agrees = { alike_mixed };
 
     // By the fields side by side, so that nodes with neighbouring children are spread.
-    fn hash(self) -> u16 {
+    fn hash(&self) -> u16 {
         let children = u64::from(self.low) + 65536 * u64::from(self.high);
         let fields = children + 65536 * 65536 * u64::from(self.variable);
         (fields.wrapping_mul(GOLDEN) >> 48) as u16

@@ -1,8 +1,8 @@
 -- What the entries in use are, in the records, and where an entry stands.
-use Rattle.std.proofs.Common.{◌≡◌, ℕ, zero, suc, ◌+◌, ◌-◌, ◌<◌, ◌≤◌, Bool, false, min, ◌⊎◌, ◌≢◌, List, [], ◌∷◌, ◌++◌, length, get_or, take, drop, set, Some, None, Option, Decides, position, sym, refl, ap, ◌∙◌, inl, inr, ⊎_elim, arith}
+use Rattle.std.proofs.Common.{◌≡◌, ℕ, zero, suc, ◌+◌, ◌-◌, ◌<◌, ◌≤◌, Bool, false, min, ◌⊎◌, List, [], ◌∷◌, ◌++◌, length, get_or, take, drop, set, Some, None, Option, position, sym, refl, ap, ◌∙◌, inl, inr, ⊎_elim, arith}
 use Rattle.std.specs.List.{slice_get, position_or_len}
 use Rattle.std.proofs.lemmas.List.{length-take, length-drop, get_or-drop, take-take, take_all, take_more_set}
-use Rattle.std.proofs.lemmas.Option.{slice_get_past, slice_get_read, get_or_from_slice_get}
+use Rattle.std.proofs.lemmas.Option.{slice_get_past, slice_get-get_or, get_or_from_slice_get}
 use Rattle.std.proofs.lemmas.List.Quantifiers.{position-Some}
 use Rattle.std.proofs.lemmas.List.Sums.{fails_before_first}
 use Rattle.std.proofs.lemmas.Bool.{cases_lt, lt-ltb, both_ways}
@@ -10,6 +10,7 @@ use Rattle.std.specs.declared.cmp.PartialEq as eq
 use Rattle.records.specs.declared.entry.Entry as entry
 use Rattle.records.specs.declared.list.List.{List as Records}
 use Rattle.records.specs.Contents.{entries, room}
+use Rattle.records.specs.Placing.{Stands}
 
 module _ {T : Type 0} (records : List T) (used : ℕ) where
   pub shortened : (kept : ℕ) → take (min used kept) records ≡ take kept (take used records)
@@ -55,8 +56,8 @@ passes_none p xs k d e h = fails_before_first p xs k d (⊎_elim
     (λ past. omega arith)
     (cases_lt (position_or_len p xs) (length xs)))
 
--- by a test of identity, in the entries from place n on
-module _ {T : Type 0} (eq : T → T → Bool) (exact : (a b : T) → Decides (eq a b) (a ≡ b)) (zs xs : List T) (is : zs ≡ xs) (n : ℕ) (low : n ≤ length xs) (x : T) where
+-- an entry that equals x, among those from place n on
+module _ {T : Type 0} (eq : T → T → Bool) (zs xs : List T) (is : zs ≡ xs) (n : ℕ) (low : n ≤ length xs) (x : T) where
   abbrev later : List T
   later = take (length zs - n) (drop n zs)
 
@@ -67,14 +68,16 @@ module _ {T : Type 0} (eq : T → T → Bool) (exact : (a b : T) → Decides (eq
     placed : r ≡ position (λ y. eq y x) (drop n xs)
     placed = e ∙ ap (position (λ y. eq y x)) later_is
 
-    pub found_later : (i : ℕ) → r ≡ Some i → slice_get xs (n + i) ≡ Some x
+    pub found_later : (i : ℕ) → r ≡ Some i → Stands eq xs (n + i) x
     found_later i s =
-        let p = position-Some (λ y. eq y x) (drop n xs) i x (sym placed ∙ s) in
-        slice_get_read xs _ (n + i) x refl (omega (arith, p.0, length-drop n xs))
-        (sym ((exact _ x).0 p.1) ∙ get_or-drop n xs i x)
+        let p = position-Some (λ y. eq y x) (drop n xs) i x (sym placed ∙ s) in (
+          get_or xs (n + i) x,
+          slice_get-get_or xs (n + i) x (omega (arith, p.0, length-drop n xs)),
+          sym (ap (λ y. eq y x) (get_or-drop n xs i x)) ∙ p.1,
+        )
 
-    pub absent_later : r ≡ None → (k : ℕ) → n ≤ k → k < length xs → slice_get xs k ≢ Some x
-    absent_later s k h l p =
+    pub absent_later : r ≡ None → (k : ℕ) → n ≤ k → k < length xs → Stands eq xs k x → ⊥
+    absent_later s k h l (y, p, t) =
         let q : n + (k - n) ≡ k = omega arith in
         let m = passes_none (λ y. eq y x) (drop n xs) (k - n) x (sym placed ∙ s) (omega (arith, length-drop n xs)) in
-        both_ways _ m ((exact _ x).1 (get_or-drop n xs (k - n) x ∙ ap (λ j. get_or xs j x) q ∙ get_or_from_slice_get xs k x x p))
+        both_ways _ m (ap (λ y. eq y x) (get_or-drop n xs (k - n) x ∙ ap (λ j. get_or xs j x) q ∙ get_or_from_slice_get xs k y x p) ∙ t)

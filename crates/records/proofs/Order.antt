@@ -1,28 +1,29 @@
 -- How a list stays orderly, and what that tells of a look-up.
-use Rattle.std.proofs.Common.{◌≡◌, ℕ, suc, ◌+◌, ◌%◌, ◌<◌, ◌≤◌, min, ◌≢◌, List, [], ◌∷◌, ◌++◌, length, get_or, take, set, Some, None, sym, ap, ◌∙◌, subst, ⊎_elim, arith}
+use Rattle.std.proofs.Common.{◌≡◌, ℕ, suc, ◌+◌, ◌%◌, ◌<◌, ◌≤◌, min, Bool, true, ◌≢◌, List, [], ◌∷◌, ◌++◌, length, get_or, take, set, Some, None, sym, ap, ◌∙◌, subst, ⊎_elim, arith}
 use mathlib.Core.HLevel.{Π_prop, ⊥_prop}
 use mathlib.Core.Logic.{∥∥₁_elim}
 use Rattle.std.specs.List.{slice_get}
+use Rattle.std.specs.Cmp.{IsEquivalence}
 use Rattle.std.proofs.lemmas.Nat.{mod_below}
 use Rattle.std.proofs.lemmas.List.{length-take, length_push, length-set, get_or-set_same}
 use Rattle.std.proofs.lemmas.Bool.{cases_eq, cases_lt}
 use Rattle.records.specs.declared.index.Index.{Index}
 use Rattle.records.specs.Chains.{buckets, Chained, here, there, Cut, limit, Newest}
 use Rattle.records.specs.Orderly.{filed, Orderly}
-use Rattle.records.specs.Placing.{Absent, Among}
+use Rattle.records.specs.Placing.{Stands, Absent, Among}
 use Rattle.records.proofs.Chains.{chained-kept}
 use Rattle.records.proofs.Contents.{stands_below, stands_in_front, stands_pushed}
 
-pub absent_prop : {T : Type 0} (xs : List T) (n : ℕ) (x : T) → IsProp (Absent xs n x)
-absent_prop xs n x = Π_prop (λ _. Π_prop (λ _. Π_prop (λ _. ⊥_prop)))
+pub absent_prop : {T : Type 0} (eq : T → T → Bool) (xs : List T) (n : ℕ) (x : T) → IsProp (Absent eq xs n x)
+absent_prop eq xs n x = Π_prop (λ _. Π_prop (λ _. Π_prop (λ _. ⊥_prop)))
 
-module _ {T : Type 0} (hash : T → ℕ) (xs : List T) (i : Index) (f : Orderly hash xs i) where
-  -- the one place of an entry is the lowest
-  pub lowest : (n : ℕ) (x : T) → slice_get xs n ≡ Some x → Absent xs n x
-  lowest n x e k h p = omega (arith, f.once k n x p e)
+module _ {T : Type 0} (eq : T → T → Bool) (laws : IsEquivalence eq) (hash : T → ℕ) (xs : List T) (i : Index) (f : Orderly eq hash xs i) where
+  -- the one place of an equal entry is the lowest
+  pub lowest : (n : ℕ) (x : T) → Stands eq xs n x → Absent eq xs n x
+  lowest n x (y, p, e) k h (z, q, d) = omega (arith, f.once k n z y q p (laws.congr z x y d ∙ laws.symm x y ∙ e))
 
   module _ (ys : List T) (j : Index) where
-    pub orderly_cut : (kept : ℕ) → ys ≡ take kept xs → Cut i kept j → Orderly hash ys j
+    pub orderly_cut : (kept : ℕ) → ys ≡ take kept xs → Cut i kept j → Orderly eq hash ys j
     orderly_cut kept e c =
         let n : length ys ≡ min kept (length xs) = ap length e ∙ length-take kept xs in
         let s : limit j ≡ limit i = ap (λ (ls : List ℕ). min (length ls) 65535) c.links in
@@ -33,24 +34,28 @@ module _ {T : Type 0} (hash : T → ℕ) (xs : List T) (i : Index) (f : Orderly 
               let b = mod_below (hash x) buckets (omega arith) in
               subst (λ (ls : List ℕ). Chained ls (get_or j.heads (hash x % buckets) 0) k) (sym c.links)
               ((c.heads (hash x % buckets) b).chain k (omega arith) (omega arith) (f.chained k x (omega arith) (back k x p)));
-          once = λ k m x p q. f.once k m x (back k x p) (back m x q);
+          once = λ k m x y p q e. f.once k m x y (back k x p) (back m y q) e;
         }
 
-    module _ (x : T) (e : ys ≡ xs ++ x ∷ []) (absent : Absent xs (length xs) x) where
+    module _ (x : T) (e : ys ≡ xs ++ x ∷ []) (absent : Absent eq xs (length xs) x) where
       -- what stands in the longer list
       stood : (k : ℕ) (y : T) → slice_get ys k ≡ Some y → slice_get (xs ++ x ∷ []) k ≡ Some y
       stood k y p = ap (λ (zs : List T). slice_get zs k) (sym e) ∙ p
 
-      twice : (k m : ℕ) (y : T) → slice_get ys k ≡ Some y → slice_get ys m ≡ Some y → k ≡ m
-      twice k m y p q = ⊎_elim
+      -- an entry that stood equals none that is equal to x
+      new_to : (k : ℕ) (y z : T) → slice_get xs k ≡ Some y → x ≡ z → eq y z ≡ true → ⊥
+      new_to k y z old new e = absurd (absent k (stands_below xs k y old) (y, old, ap (eq y) new ∙ e))
+
+      twice : (k m : ℕ) (y z : T) → slice_get ys k ≡ Some y → slice_get ys m ≡ Some z → eq y z ≡ true → k ≡ m
+      twice k m y z p q e = ⊎_elim
           (λ old. ⊎_elim
-          (λ old'. f.once k m y old old')
-          (λ new. absurd (absent k (stands_below xs k y old) (old ∙ ap Some (sym new.1))))
-          (stands_pushed xs x m y (stood m y q)))
+          (λ old'. f.once k m y z old old' e)
+          (λ new. absurd (new_to k y z old new.1 e))
+          (stands_pushed xs x m z (stood m z q)))
           (λ new. ⊎_elim
-          (λ old. absurd (absent m (stands_below xs m y old) (old ∙ ap Some (sym new.1))))
+          (λ old. absurd (new_to m z y old new.1 (laws.symm z y ∙ e)))
           (λ new'. new.0 ∙ sym new'.0)
-          (stands_pushed xs x m y (stood m y q)))
+          (stands_pushed xs x m z (stood m z q)))
           (stands_pushed xs x k y (stood k y p))
 
       longer : length ys ≡ length xs + 1
@@ -60,7 +65,7 @@ module _ {T : Type 0} (hash : T → ℕ) (xs : List T) (i : Index) (f : Orderly 
       old_below k y p h = omega (arith, stands_below xs k y p)
 
       -- the entry is past the end of the links
-      pub orderly_past : j ≡ i → limit i ≤ length xs → Orderly hash ys j
+      pub orderly_past : j ≡ i → limit i ≤ length xs → Orderly eq hash ys j
       orderly_past same past =
           let s : limit j ≡ limit i = ap limit same in
           record {
@@ -104,7 +109,7 @@ module _ {T : Type 0} (hash : T → ℕ) (xs : List T) (i : Index) (f : Orderly 
             (stands_pushed xs x k y p)
 
         -- the entry has a link
-        pub orderly_more : Orderly hash ys j
+        pub orderly_more : Orderly eq hash ys j
         unfolding head
         orderly_more =
             let s : limit j ≡ limit i = ap (λ (ls : List ℕ). min (length ls) 65535) c.links ∙ ap (λ n. min n 65535) (length-set _ _ _) in
@@ -121,9 +126,10 @@ module _ {T : Type 0} (hash : T → ℕ) (xs : List T) (i : Index) (f : Orderly 
             }
 
 -- the one place that was found
-pub is_lowest : {T : Type 0} (hash : T → ℕ) (xs : List T) (i : Index) (x : T) → ∥ Orderly hash xs i ∥₁ → (k : ℕ) → slice_get xs k ≡ Some x → Absent xs k x
-is_lowest hash xs i x o k e = ∥∥₁_elim o (absent_prop xs k x) (λ f. lowest hash xs i f k x e)
+pub is_lowest : {T : Type 0} (eq : T → T → Bool) → IsEquivalence eq → (hash : T → ℕ) (xs : List T) (i : Index) (x : T) → ∥ Orderly eq hash xs i ∥₁ → (k : ℕ)
+    → Stands eq xs k x → Absent eq xs k x
+is_lowest eq laws hash xs i x o k e = ∥∥₁_elim o (absent_prop eq xs k x) (λ f. lowest eq laws hash xs i f k x e)
 
--- that x stands among the first places, or among the others
-pub stands_nowhere : {T : Type 0} (xs : List T) (x : T) (n : ℕ) → Among xs x 0 n None → Among xs x n (length xs) None → Absent xs (length xs) x
-stands_nowhere xs x n below past k l = ⊎_elim (λ h. below k (omega arith) h) (λ h. past k h l) (cases_lt k n)
+-- an equal entry stands among the first places, or among the others
+pub stands_nowhere : {T : Type 0} (eq : T → T → Bool) (xs : List T) (x : T) (n : ℕ) → Among eq xs x 0 n None → Among eq xs x n (length xs) None → Absent eq xs (length xs) x
+stands_nowhere eq xs x n below past k l = ⊎_elim (λ h. below k (omega arith) h) (λ h. past k h l) (cases_lt k n)

@@ -1,12 +1,15 @@
-// A kind of entry whose `==` tells identity, with a hash by which it is found. No `Hash` of the library: a hasher to take it would say the same in more lines.
-ghost use Rattle.std.specs.Prelude.{◌≡◌, ℕ, Decides};
+// A kind of entry that can tell equality: by `Eq`, its `==` is an equivalence, and equal entries need not be identical.
+// No `Copy`: an entry that is found, or finds no room, is dropped.
+ghost use Rattle.std.specs.Prelude.{◌≡◌, ℕ, true};
 
-pub trait Entry: Copy + PartialEq {
-    ghost hashed: { Self → ℕ };
+pub trait Entry: Eq + Drop {
+    ghost hashed: { Self → ℕ } = { λ _. 0 };
 
-    // Serves well where unequal entries seldom agree in its last 14 bits.
-    fn hash(self) -> u16
-        ensures { result ≡ hashed self };
+    // By which the entry is found faster: it serves well where unequal entries seldom agree in its last 14 bits.
+    // A kind that has none answers 0. No body says so here: it would be proved for every `hashed`.
+    // No `Hash` of the library: a hasher to take it would say the same in more lines.
+    fn hash(&self) -> u16
+        ensures { result ≡ hashed self.now };
 
-    ghost exact: { (a b : Self) → Decides (Self.eq a b) (a ≡ b) };
+    ghost agrees: { (a b : Self) → Self.eq a b ≡ true → hashed a ≡ hashed b };
 }

@@ -23,10 +23,10 @@ pub use list::List;
 pub struct Full;
 
 // The lowest place of an equal entry.
-fn position<T: Entry>(entries: &[T], item: T) -> Option<usize>
-    ensures { result ≡ position (λ entry. T.PartialEq.eq entry item) entries.now }
+fn position<T: Entry>(entries: &[T], item: &T) -> Option<usize>
+    ensures { result ≡ position (λ entry. T.PartialEq.eq entry item.now) entries.now }
 {
-    entries.iter().position(|entry| *entry == item)
+    entries.iter().position(|entry| entry == item)
 }
 
 impl<'a, T: Entry> List<'a, T> {
@@ -89,13 +89,13 @@ impl<'a, T: Entry> List<'a, T> {
 
     // The place of an equal entry that is on the chain of its bucket.
     #[inline(always)]
-    fn on_chain(&self, item: T, bucket: usize) -> Option<usize>
-        requires { bucket ≡ T.Entry.hashed item % buckets }
-        ensures { Among (entries self.now) item 0 (filed (entries self.now) self.now.index) result }
+    fn on_chain(&self, item: &T, bucket: usize) -> Option<usize>
+        requires { bucket ≡ T.Entry.hashed item.now % buckets }
+        ensures { Among T.PartialEq.eq (entries self.now) item.now 0 (filed (entries self.now) self.now.index) result }
     {
         let mut at = self.index.first(bucket);
         while at > 0 {
-            if self.as_slice()[at - 1] == item {
+            if self.as_slice()[at - 1] == *item {
                 return Some(at - 1);
             }
             at = self.index.next(at);
@@ -105,8 +105,8 @@ impl<'a, T: Entry> List<'a, T> {
 
     // The place of an equal entry that is past those on chains.
     #[inline(always)]
-    fn past_chains(&self, item: T) -> Option<usize>
-        ensures { Among (entries self.now) item (filed (entries self.now) self.now.index) (length (entries self.now)) result }
+    fn past_chains(&self, item: &T) -> Option<usize>
+        ensures { Among T.PartialEq.eq (entries self.now) item.now (filed (entries self.now) self.now.index) (length (entries self.now)) result }
     {
         let filed = self.filed();
         let place = position(&self.as_slice()[filed..], item)?;
@@ -115,9 +115,9 @@ impl<'a, T: Entry> List<'a, T> {
 
     // The lowest place of an equal entry.
     #[inline(always)]
-    fn place(&self, item: T, bucket: usize) -> Option<usize>
-        requires { bucket ≡ T.Entry.hashed item % buckets }
-        ensures { Finds (entries self.now) item result }
+    fn place(&self, item: &T, bucket: usize) -> Option<usize>
+        requires { bucket ≡ T.Entry.hashed item.now % buckets }
+        ensures { Finds T.PartialEq.eq (entries self.now) item.now result }
     {
         if let Some(place) = self.on_chain(item, bucket) {
             return Some(place);
@@ -132,7 +132,7 @@ impl<'a, T: Entry> List<'a, T> {
         ensures { Places self.old item result self.new }
     {
         let bucket = usize::from(item.hash()) % BUCKETS;
-        if let Some(place) = self.place(item, bucket) {
+        if let Some(place) = self.place(&item, bucket) {
             return Ok(place);
         }
         let end = self.len();

@@ -12,5 +12,5 @@ pub struct List<'a, T: Entry> {
     pub(crate) used: usize,
     pub(crate) index: Index<'a>,
     ghost within: { used ≤ length records.now },
-    ghost orderly: { ∥ Orderly T.Entry.hashed (take used records.now) index ∥₁ },
+    ghost orderly: { ∥ Orderly T.PartialEq.eq T.Entry.hashed (take used records.now) index ∥₁ },
 }

@@ -11,7 +11,7 @@ use Rattle.std.proofs.lemmas.Bool.Decides.{Decides-not}
 use Rattle.records.specs.declared.Full.{Full}
 use Rattle.records.specs.declared.list.List.{List as Records}
 use Rattle.records.specs.Contents.{entries, room}
-use Rattle.records.specs.Placing.{Places, Answers as LookedUp}
+use Rattle.records.specs.Placing.{Stands, Absent, Places, Answers as LookedUp}
 use Rattle.records.proofs.Contents.{entries_fit}
 use Rattle.store.specs.declared.refusal.Refusal.{Refusal}
 use Rattle.store.specs.declared.refusal.Refusal.TheVariants.{Room}
@@ -22,6 +22,7 @@ use Rattle.store.proofs.Same.{holds_tells, same_refl, same_sym}
 use Rattle.store.proofs.Making.{made_of}
 use Rattle.table.specs.declared.Table.{Table}
 use Rattle.table.specs.declared.truths.Truths.{Truths}
+use Rattle.table.specs.Identity.{alike, truths_exact}
 use Rattle.table.specs.Tables.{truth, table, Constant}
 use Rattle.table.specs.Store.{shows}
 use Rattle.table.specs.Shows.{kept, value, shown, sound}
@@ -55,6 +56,13 @@ constant_of n f t r few is e = told r (subst (λ (u : Truths). Constant n (truth
     told : (r : Option Bool) → Constant n (truth (table n f)) r → Constant n f r
     told (Some b) e = λ w h. sym (truth_table n f few w h) ∙ e w h
     told None e = λ b s. e b (λ w h. truth_table n f few w h ∙ s w h)
+
+-- an entry that equals t is t itself
+stands : (xs : List Truths) (k : ℕ) (t : Truths) → Stands alike xs k t → slice_get xs k ≡ Some t
+stands xs k t (y, p, e) = p ∙ ap Some ((truths_exact y t).0 e)
+
+absent : (xs : List Truths) (n : ℕ) (t : Truths) → Absent alike xs n t → (k : ℕ) → k < n → slice_get xs k ≡ Some t → ⊥
+absent xs n t a k h p = a k h (t, p, (truths_exact t t).1 refl)
 
 module _ (n : ℕ) (xs : List Truths) (capacity : ℕ) (few : n ≤ 10) (fits : length xs ≤ capacity) (small : capacity ≤ 65534) (s : sound n xs ≡ true) (f : Fn) where
   -- f is held under the number a
@@ -90,16 +98,16 @@ module _ (n : ℕ) (xs : List Truths) (capacity : ℕ) (few : n ≤ 10) (fits : 
     not_held absent = not-true _ ((Decides-not _ (holds_tells (shown n xs capacity) f)).1
         (λ t. under_none absent t.0 (ltb-true t.0 (length xs + 2) t.2.0) t.2.1))
 
-    sound_placed : (p : Result ℕ Full) (ys : List Truths) → LookedUp xs capacity (table n f) p ys → sound n ys ≡ true
+    sound_placed : (p : Result ℕ Full) (ys : List Truths) → LookedUp alike xs capacity (table n f) p ys → sound n ys ≡ true
     sound_placed (Ok k) ys h = ⊎_elim
         (λ found. subst (λ (zs : List Truths). sound n zs ≡ true) (sym found.1) s)
         (λ added. subst (λ (zs : List Truths). sound n zs ≡ true) (sym added.2)
-        (sound_push n xs f few s (under_none (λ j low. h.0 j (omega (arith, added.0))))))
+        (sound_push n xs f few s (under_none (λ j low. absent xs k (table n f) h.0 j (omega (arith, added.0))))))
         h.1
     sound_placed (Err _) ys h = subst (λ (zs : List Truths). sound n zs ≡ true) (sym h.2) s
 
-    narrow_placed : (p : Result ℕ Full) (ys : List Truths) → LookedUp xs capacity (table n f) p ys → Narrow (reply p)
-    narrow_placed (Ok k) ys h = ⊎_elim (λ found. omega (arith, slice_get_within xs k _ found.0)) (λ added. omega (arith, added.0, added.1)) h.1
+    narrow_placed : (p : Result ℕ Full) (ys : List Truths) → LookedUp alike xs capacity (table n f) p ys → Narrow (reply p)
+    narrow_placed (Ok k) ys h = ⊎_elim (λ found. omega (arith, slice_get_within xs k _ (stands xs k (table n f) found.0))) (λ added. omega (arith, added.0, added.1)) h.1
     narrow_placed (Err _) ys h = tt
 
     made_found : (k : ℕ) → slice_get xs k ≡ Some (table n f) → Made (shown n xs capacity) (shown n xs capacity) f (k + 2)
@@ -128,23 +136,23 @@ module _ (n : ℕ) (xs : List Truths) (capacity : ℕ) (few : n ≤ 10) (fits : 
         (omega (arith, price_one n xs capacity f none))
         (λ y. absurd (both_ways _ none y))
 
-    placed_answers : (p : Result ℕ Full) (ys : List Truths) → LookedUp xs capacity (table n f) p ys → Answers (shown n xs capacity) (shown n ys capacity) f (reply p)
+    placed_answers : (p : Result ℕ Full) (ys : List Truths) → LookedUp alike xs capacity (table n f) p ys → Answers (shown n xs capacity) (shown n ys capacity) f (reply p)
     placed_answers (Ok k) ys h = ⊎_elim
-        (λ found. subst (λ (zs : List Truths). Made (shown n xs capacity) (shown n zs capacity) f (k + 2)) (sym found.1) (made_found k found.0))
+        (λ found. subst (λ (zs : List Truths). Made (shown n xs capacity) (shown n zs capacity) f (k + 2)) (sym found.1) (made_found k (stands xs k (table n f) found.0)))
         (λ added. subst (λ (zs : List Truths). Made (shown n xs capacity) (shown n zs capacity) f (k + 2)) (sym added.2)
         (subst (λ (a : ℕ). Made (shown n xs capacity) (shown n (xs ++ table n f ∷ []) capacity) f (a + 2)) (sym added.0)
-        (made_added added.1 (λ j low. h.0 j (omega (arith, added.0))))))
+        (made_added added.1 (λ j low. absent xs k (table n f) h.0 j (omega (arith, added.0))))))
         h.1
     placed_answers (Err _) ys h =
-        (ap (λ zs. shown n zs capacity) h.2, omega (arith, price_one n xs capacity f (not_held h.1), h.0), omega (arith, h.0))
+        (ap (λ zs. shown n zs capacity) h.2, omega (arith, price_one n xs capacity f (not_held (absent xs (length xs) (table n f) h.1)), h.0), omega (arith, h.0))
 
 -- what is then so of a store d whose list has become m, by the look-up of x, the table of f, which is no constant
 module _ (d : Table) (m : Records Truths _ _) (f : Fn) (x : Truths) (is : x ≡ table d.n f) (none : Constant d.n (truth x) None) (p : Result ℕ Full) (h : Places d.list x p m) where
   mixed : (b : Bool) → Same d.n f (λ _. b) → ⊥
   mixed = constant_of d.n f x None d.few is none
 
-  looked : LookedUp (entries d.list) (room d.list) (table d.n f) p (entries m)
-  looked = subst (λ (t : Truths). LookedUp (entries d.list) (room d.list) t p (entries m)) is h.0
+  looked : LookedUp alike (entries d.list) (room d.list) (table d.n f) p (entries m)
+  looked = subst (λ (t : Truths). LookedUp alike (entries d.list) (room d.list) t p (entries m)) is h.0
 
   pub sound_after : sound d.n (entries m) ≡ true
   sound_after = sound_placed d.n (entries d.list) (room d.list) d.few (entries_fit d.list) d.small d.apart f mixed p (entries m) looked

@@ -4,7 +4,7 @@ ghost use Rattle.store.specs.Fun.{Fn};
 ghost use Rattle.table.specs.declared.TheConstants.{MOST};
 ghost use Rattle.table.specs.Tables.{truth, packed, packed_truths, table, Constant, Computes};
 ghost use Rattle.table.specs.Hash.{mixed};
-ghost use Rattle.table.specs.Identity.{truths_exact};
+ghost use Rattle.table.specs.Identity.{alike_mixed};
 
 use crate::MOST;
 use records::entry::Entry;
@@ -23,10 +23,10 @@ pub struct Truths {
 impl Entry for Truths {
     ghost hashed = { λ t. mixed t };
 
-    ghost exact = { truths_exact };
+    ghost agrees = { alike_mixed };
 
     // The first bytes tell functions of few variables apart, and the others help with more. The weights add up to what 16 bits hold of 255 each.
-    fn hash(self) -> u16 {
+    fn hash(&self) -> u16 {
         let low = u16::from(self.bytes[0]) + 64 * u16::from(self.bytes[1]);
         let high = 91 * u16::from(self.bytes[3]) + 101 * u16::from(self.bytes[BYTES - 1]);
         low + high

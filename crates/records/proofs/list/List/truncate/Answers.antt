@@ -11,7 +11,7 @@ invariant_of-self g c =
     let e = ap (λ n. take n l.records.now) c.min-self.ensures ∙ shortened l.records.now l.used c.args.kept in
     record {
       within = omega (arith, l.within, c.min-self.ensures);
-      orderly = ∥∥₁_map l.orderly (λ f. orderly_cut g.T.Entry.hashed _ _ f _ _ c.args.kept e c.truncate.ensures);
+      orderly = ∥∥₁_map l.orderly (λ f. orderly_cut g.T.PartialEq.eq g.met.T.Eq.laws g.T.Entry.hashed _ _ f _ _ c.args.kept e c.truncate.ensures);
     }
 
 pub returns : goal.returns
