@@ -1,89 +1,161 @@
--- A call with its arguments has one answer, unless it is refused for room.
-use Rattle.std.proofs.Common.{◌≡◌, ℕ, suc, Bool, ◌⊎◌, List, Ok, Err, Result, refl, ap, ap₂, inl, inr, arith}
+-- A call with its arguments has one answer, if the store then shows the same.
+use Rattle.std.proofs.Common.{◌≡◌, ℕ, suc, Bool, true, cond, List, Ok, Err, Result, sym, refl, ap, ap₂, ◌∙◌, subst, arith}
+use Rattle.store.specs.Meaning.{Shown, Lawful, holds}
+use Rattle.description.specs.Checks.{Checked}
+use Rattle.description.specs.declared.fault.Fault.{Fault as Misdescription}
+use Rattle.description.proofs.Checks.{one_check}
 use Rattle.making.specs.declared.fault.Fault.{Fault}
 use Rattle.making.specs.declared.fault.Fault.TheVariants.{Description}
-use Rattle.runs.specs.Models.{system}
+use Rattle.making.specs.Making.{Item, Runs, Stops, here, later, Held, none, more, Found, all, first, missing}
+use Rattle.making.specs.Loads.{load_list}
+use Rattle.making.proofs.Bounds.{runs_held, stops_missing}
+use Rattle.runs.specs.Models.{Model, system}
 use Rattle.runs.proofs.Traces as runs
 use Rattle.uses.specs.declared.verdict.Verdict.{Verdict}
 use Rattle.uses.specs.Calls.{loaded, told, Call, load, advance, ask, trace, inside, Stand, Event}
-use Rattle.uses.specs.Uses.{Step, load_twice, load_wrong, load_full, loads, advance_empty, advance_settled, advance_full, advances, asks, trace_empty, trace_verdict, trace_short, traces, inside_empty, inside_verdict, inside_state, insides}
-use Rattle.uses.specs.Steps.{Alike, both_load, both_advance, both_ask, both_trace, both_inside, Full, full_load, full_advance, Determined}
-use Rattle.description.proofs.Checks.{one_check}
+use Rattle.uses.specs.Uses.{room, Step, load_twice, load_wrong, load_full, loads, advance_empty, advance_settled, advance_full, advances, asks, trace_empty, trace_verdict, trace_short, traces, inside_empty, inside_verdict, inside_state, insides}
+use Rattle.uses.specs.Determined.{Alike, both_load, both_advance, both_ask, both_trace, both_inside, Determined}
 use Rattle.uses.proofs.Told.{never}
 use Rattle.uses.proofs.Written.{written_like}
 use Rattle.uses.proofs.Uses.{closed, Come, come}
 
--- one answer and one state, or a refusal for room
+none_missing : {t : Shown} {l : List Item} → Held t l → missing t l ≡ all
+none_missing none = refl
+none_missing {t = t} (more {x = x} {xs = xs} h k) = ap (λ b. cond b (missing t xs) (first x)) h ∙ none_missing k
+
+stops_lawful : {s t : Shown} {l : List Item} {y : Item} → Stops s l y t → Lawful t
+stops_lawful (here w q) = w
+stops_lawful (later a w m q) = stops_lawful q
+
+-- the first item whose result is not held at the end is one
+same_item : {x y : Item} → first x ≡ first y → x ≡ y
+same_item e = cc
+
+not_all : {x : Item} → all ≡ first x → ⊥
+not_all e = never (cc)
+
+-- by what the store shows at the end, a list was made, or which call of it was refused
+module _ {s t u : Shown} {l : List Item} (e : t ≡ u) where
+  one_item : {x y : Item} → Stops s l x t → Stops s l y u → x ≡ y
+  one_item q q' = same_item (sym (stops_missing q) ∙ ap (λ v. missing v l) e ∙ stops_missing q')
+
+  not_stopped : {y : Item} → Runs s l t → Stops s l y u → ⊥
+  not_stopped r q =
+      not_all (sym (none_missing (subst (λ v. Held v l) e (runs_held (subst Lawful (sym e) (stops_lawful q)) r))) ∙ stops_missing q)
+
+  one_room : {x y : Item} → Stops s l x t → Stops s l y u → room x t ≡ room y u
+  one_room q q' = ap₂ room (one_item q q') e
+
+-- one answer, one pair of arrays and one state
 abbrev One : Stand → Stand → Call → Call → Type 0
-One v v' c c' = ((c ≡ c') × (v.state ≡ v'.state)) ⊎ (Full c ⊎ Full c')
+One v v' c c' = (c ≡ c') × (v.state ≡ v'.state)
 
-load_one : {w v v' : Stand} {x a p : List ℕ} {r r' : Result Verdict Fault} → Step w (load x a p r) v → Step w (load x a p r') v' → One v v' (load x a p r) (load x a p r')
-load_one load_twice load_twice = inl (refl, refl)
-load_one (load_wrong {file = x} {a = a} {p = p} {e = e} k) (load_wrong {e = e'} k') =
-    let h = one_check k k' in
-    let i : e ≡ e' = cc in
-    inl (ap (λ f. load x a p (Err (Description f))) i, refl)
-load_one (load_wrong k) (load_full k' q) = inr (inr (full_load _ _ _ _ _ _))
-load_one (load_wrong k) (loads k' t) = let h = one_check k k' in never (cc)
-load_one (load_full k q) s = inr (inl (full_load _ _ _ _ _ _))
-load_one (loads k t) (load_wrong k') = let h = one_check k k' in never (cc)
-load_one (loads k t) (load_full k' q) = inr (inr (full_load _ _ _ _ _ _))
-load_one (loads {file = x} {a = a} {p = p} {m = m} k t) (loads {m = m'} k' t') =
-    let h = one_check k k' in
-    let i : m ≡ m' = cc in
-    inl (ap (λ n. load x a p (Ok (told (loaded n 0)))) i, ap (λ n. loaded n 0) i)
+module _ {width : ℕ} {x a p : List ℕ} where
+  same_model : {m m' : Model} → Checked width x a p (Ok m) → Checked width x a p (Ok m') → m ≡ m'
+  same_model k k' = let h = one_check k k' in cc
 
-advance_one : {w v v' : Stand} {r r' : Result Verdict Fault} → Step w (advance r) v → Step w (advance r') v' → One v v' (advance r) (advance r')
-advance_one advance_empty advance_empty = inl (refl, refl)
-advance_one (advance_settled n) (advance_settled n') = inl (refl, refl)
-advance_one (advance_settled n) (advance_full o q) = inr (inr (full_advance _ _ _))
-advance_one (advance_settled n) (advances o t) = absurd (n o)
-advance_one (advance_full o q) s = inr (inl (full_advance _ _ _))
-advance_one (advances o t) (advance_settled n) = absurd (n o)
-advance_one (advances o t) (advance_full o' q) = inr (inr (full_advance _ _ _))
-advance_one (advances o t) (advances o' t') = inl (refl, refl)
+  same_fault : {e e' : Misdescription} → Checked width x a p (Err e) → Checked width x a p (Err e') → e ≡ e'
+  same_fault k k' = let h = one_check k k' in cc
+
+  not_both : {X : Type 0} {m : Model} {e : Misdescription} → Checked width x a p (Ok m) → Checked width x a p (Err e) → X
+  not_both k k' = let h = one_check k k' in never (cc)
+
+load_one :
+    {w v v' : Stand} {x a p : List ℕ} {r r' : Result Verdict Fault}
+    → Step w (load x a p r) v
+    → Step w (load x a p r') v'
+    → v.store ≡ v'.store
+    → One v v' (load x a p r) (load x a p r')
+load_one load_twice load_twice s = (refl, refl)
+load_one (load_wrong {file = x} {a = a} {p = p} k) (load_wrong k') s =
+    (ap (λ f. load x a p (Err (Description f))) (same_fault k k'), refl)
+load_one (load_wrong k) (load_full k' q) s = not_both k' k
+load_one (load_wrong k) (loads k' t) s = not_both k' k
+load_one (load_full k q) (load_wrong k') s = not_both k k'
+load_one (load_full {s = w} {t = t} {file = x} {a = a} {p = p} {y = y} k q) (load_full k' q') s =
+    let q'' = subst (λ m. Stops w (load_list m) y t) (same_model k k') q in
+    (ap (λ f. load x a p (Err f)) (one_room s q'' q'), refl)
+load_one (load_full {s = w} {t = t} {y = y} k q) (loads k' r) s =
+    absurd (not_stopped (sym s) r (subst (λ m. Stops w (load_list m) y t) (same_model k k') q))
+load_one (loads k t) (load_wrong k') s = not_both k k'
+load_one (loads k r) (load_full {s = w} {t = t} {y = y} k' q) s =
+    absurd (not_stopped s r (subst (λ m. Stops w (load_list m) y t) (same_model k' k) q))
+load_one (loads {file = x} {a = a} {p = p} k t) (loads k' t') s =
+    let e = same_model k k' in
+    (ap (λ n. load x a p (Ok (told (loaded n 0)))) e, ap (λ n. loaded n 0) e)
+
+advance_one :
+    {w v v' : Stand} {r r' : Result Verdict Fault}
+    → Step w (advance r) v
+    → Step w (advance r') v'
+    → v.store ≡ v'.store
+    → One v v' (advance r) (advance r')
+advance_one advance_empty advance_empty s = (refl, refl)
+advance_one (advance_settled n) (advance_settled n') s = (refl, refl)
+advance_one (advance_settled n) (advance_full o q) s = absurd (n o)
+advance_one (advance_settled n) (advances o t) s = absurd (n o)
+advance_one (advance_full o q) (advance_settled n) s = absurd (n o)
+advance_one (advance_full o q) (advance_full o' q') s = (ap (λ f. advance (Err f)) (one_room s q q'), refl)
+advance_one (advance_full o q) (advances o' r) s = absurd (not_stopped (sym s) r q)
+advance_one (advances o t) (advance_settled n) s = absurd (n o)
+advance_one (advances o r) (advance_full o' q) s = absurd (not_stopped s r q)
+advance_one (advances o t) (advances o' t') s = (refl, refl)
 
 ask_one : {w v v' : Stand} {r r' : Verdict} → Step w (ask r) v → Step w (ask r') v' → One v v' (ask r) (ask r')
-ask_one asks asks = inl (refl, refl)
+ask_one asks asks = (refl, refl)
 
-trace_one : (h : List Event) {w v v' : Stand} {x y x₁ y₁ x₂ y₂ : List ℕ} {r r' : Result (Unit {0}) Fault} → Come h w.state
-    → Step w (trace x y x₁ y₁ r) v → Step w (trace x y x₂ y₂ r') v' → One v v' (trace x y x₁ y₁ r) (trace x y x₂ y₂ r')
-trace_one h g trace_empty trace_empty = inl (refl, refl)
-trace_one h g (trace_verdict n) (trace_verdict n') = inl (refl, refl)
-trace_one h g (trace_verdict n) (trace_short o s) = absurd (n o)
-trace_one h g (trace_verdict n) (traces q v o lx ly d) = absurd (n o)
-trace_one h g (trace_short o s) (trace_verdict n) = absurd (n o)
-trace_one h g (trace_short o s) (trace_short o' s') = inl (refl, refl)
-trace_one h g (trace_short o s) (traces q v o' lx ly d) = absurd (s lx ly)
-trace_one h g (traces q v o lx ly d) (trace_verdict n) = absurd (n o)
-trace_one h g (traces q v o lx ly d) (trace_short o' s) = absurd (s lx ly)
-trace_one h g (traces {m = m} {j = j} {x = x} {y = y} q v o lx ly d) (traces q' v' o' lx' ly' d') =
-    let e = (runs.traces (system m) (closed m) j g.0 o).one q v q' v' d d' in
-    inl (
+trace_one :
+    (start : Shown) (h : List Event) {w v v' : Stand} {x y x₁ y₁ x₂ y₂ : List ℕ} {r r' : Result (Unit {0}) Fault}
+    → Come start h w.state
+    → Step w (trace x y x₁ y₁ r) v
+    → Step w (trace x y x₂ y₂ r') v'
+    → One v v' (trace x y x₁ y₁ r) (trace x y x₂ y₂ r')
+trace_one start h g trace_empty trace_empty = (refl, refl)
+trace_one start h g (trace_verdict n) (trace_verdict n') = (refl, refl)
+trace_one start h g (trace_verdict n) (trace_short o s) = absurd (n o)
+trace_one start h g (trace_verdict n) (traces q v o lx ly d) = absurd (n o)
+trace_one start h g (trace_short o s) (trace_verdict n) = absurd (n o)
+trace_one start h g (trace_short o s) (trace_short o' s') = (refl, refl)
+trace_one start h g (trace_short o s) (traces q v o' lx ly d) = absurd (s lx ly)
+trace_one start h g (traces q v o lx ly d) (trace_verdict n) = absurd (n o)
+trace_one start h g (traces q v o lx ly d) (trace_short o' s) = absurd (s lx ly)
+trace_one start h g (traces {m = m} {j = j} {x = x} {y = y} q v o lx ly d) (traces q' v' o' lx' ly' d') =
+    let e = (runs.traces (system m) (closed m) j g.reached o).one q v q' v' d d' in (
       ap₂ (λ a b. trace x y a b (Ok tt))
           (written_like (suc j) q q' x (λ t l. (e t (omega arith)).0))
           (written_like (suc j) v v' y (λ t l. (e t (omega arith)).1)),
       refl,
     )
 
-inside_one : {w v v' : Stand} {q : ℕ} {r r' : Result Bool Fault} → Step w (inside q r) v → Step w (inside q r') v' → One v v' (inside q r) (inside q r')
-inside_one inside_empty inside_empty = inl (refl, refl)
-inside_one (inside_verdict n) (inside_verdict n') = inl (refl, refl)
+inside_one :
+    {w v v' : Stand} {q : ℕ} {r r' : Result Bool Fault}
+    → Step w (inside q r) v
+    → Step w (inside q r') v'
+    → One v v' (inside q r) (inside q r')
+inside_one inside_empty inside_empty = (refl, refl)
+inside_one (inside_verdict n) (inside_verdict n') = (refl, refl)
 inside_one (inside_verdict n) (inside_state o l) = absurd (n o)
 inside_one (inside_verdict n) (insides o l) = absurd (n o)
 inside_one (inside_state o l) (inside_verdict n) = absurd (n o)
-inside_one (inside_state o l) (inside_state o' l') = inl (refl, refl)
+inside_one (inside_state o l) (inside_state o' l') = (refl, refl)
 inside_one (inside_state o l) (insides o' l') = absurd (omega arith)
 inside_one (insides o l) (inside_verdict n) = absurd (n o)
 inside_one (insides o l) (inside_state o' l') = absurd (omega arith)
-inside_one (insides o l) (insides o' l') = inl (refl, refl)
+inside_one (insides o l) (insides o' l') = (refl, refl)
 
-by_call : (h : List Event) {w v v' : Stand} {c c' : Call} → Come h w.state → Alike c c' → Step w c v → Step w c' v' → One v v' c c'
-by_call h g (both_load x a p r r') s s' = load_one s s'
-by_call h g (both_advance r r') s s' = advance_one s s'
-by_call h g (both_ask r r') s s' = ask_one s s'
-by_call h g (both_trace x y x₁ y₁ x₂ y₂ r r') s s' = trace_one h g s s'
-by_call h g (both_inside q r r') s s' = inside_one s s'
+by_call :
+    (start : Shown) (h : List Event) {w v v' : Stand} {c c' : Call}
+    → Come start h w.state
+    → Alike c c'
+    → Step w c v
+    → Step w c' v'
+    → v.store ≡ v'.store
+    → One v v' c c'
+by_call start h g (both_load x a p r r') k k' s = load_one k k' s
+by_call start h g (both_advance r r') k k' s = advance_one k k' s
+by_call start h g (both_ask r r') k k' s = ask_one k k'
+by_call start h g (both_trace x y x₁ y₁ x₂ y₂ r r') k k' s = trace_one start h g k k'
+by_call start h g (both_inside q r r') k k' s = inside_one k k'
 
 pub determined : Determined
-determined start h w v v' c c' u like s s' = by_call h (come u) like s s'
+determined start h w v v' c c' u like k k' s = by_call start h (come u) like k k' s

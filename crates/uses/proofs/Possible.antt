@@ -14,7 +14,7 @@ use Rattle.runs.proofs.Traces as runs
 use Rattle.uses.specs.declared.verdict.Verdict.{Verdict as Answer}
 use Rattle.uses.specs.Calls.{State, empty, loaded, load, advance, trace, inside, Stand, stand, Event}
 use Rattle.uses.specs.Uses.{Step, load_twice, load_wrong, load_full, loads, advance_empty, advance_settled, advance_full, advances, asks, trace_empty, trace_verdict, trace_short, traces, inside_empty, inside_verdict, inside_state, insides}
-use Rattle.uses.specs.Steps.{Answered, Possible}
+use Rattle.uses.specs.Possible.{Answered, Possible}
 use Rattle.description.proofs.Checks.{some_check}
 use Rattle.uses.proofs.Told.{never}
 use Rattle.uses.proofs.Uses.{closed, Come, come}
@@ -54,12 +54,12 @@ module _ (s : Shown) where
       (λ hx. ⊎_elim (λ ly. (_, _, _, _, trace_short e (λ _ hy. omega arith))) (λ hy. (_, _, _, _, traces t.0 t.1 e hx hy t.2)) (cases_lt (length y) (suc j)))
       (cases_lt (length x) (suc j))
 
-  to_trace : (h : List Event) (st : State) → Come h st → (x y : List ℕ) → HandsOut st x y
-  to_trace h empty g x y = (_, _, _, _, trace_empty)
-  to_trace h (loaded m j) g x y = by (search.verdict (system m) j) refl
+  to_trace : (start : Shown) (h : List Event) (st : State) → Come start h st → (x y : List ℕ) → HandsOut st x y
+  to_trace start h empty g x y = (_, _, _, _, trace_empty)
+  to_trace start h (loaded m j) g x y = by (search.verdict (system m) j) refl
     where
       by : (a : Verdict) → search.verdict (system m) j ≡ a → HandsOut (loaded m j) x y
-      by (unsafe d) e = let h = ((verdicts (system m) (closed m) j g.0).unsafely d e).0 in traces_unsafe m j g.0 x y (cc)
+      by (unsafe d) e = let h = ((verdicts (system m) (closed m) j g.reached).unsafely d e).0 in traces_unsafe m j g.reached x y (cc)
       by safe e = (_, _, _, _, trace_verdict (λ o. never (cc)))
       by open_yet e = (_, _, _, _, trace_verdict (λ o. never (cc)))
 
@@ -80,6 +80,6 @@ possible s h w u = record {
   to_load = to_load w.store w.state;
   to_advance = to_advance w.store w.state;
   to_ask = (_, _, asks);
-  to_trace = to_trace w.store h w.state (come u);
+  to_trace = to_trace w.store s h w.state (come u);
   to_inside = to_inside w.store w.state;
 }

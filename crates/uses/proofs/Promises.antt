@@ -1,29 +1,36 @@
 -- From a use of a session to what is promised of it.
-use Rattle.std.proofs.Common.{◌≡◌, ℕ, suc, ◌≤◌, List, length, get_or, Ok, Err, refl, ap, subst, mul-le-mul_right, arith}
+use Rattle.std.proofs.Common.{◌≡◌, ℕ, suc, ◌≤◌, List, All, length, get_or, Ok, Err, refl, ap, subst, mul-le-mul_right, arith}
+use Rattle.std.proofs.lemmas.List.Elements.{All-nil, All-cons}
 use Rattle.store.specs.Meaning.{Shown, free}
 use Rattle.description.specs.Checks.{Checked, right}
 use Rattle.description.specs.declared.part.Part.{Part}
 use Rattle.making.specs.declared.fault.Fault.TheVariants as fault
-use Rattle.making.specs.Making.{Item, Stops}
+use Rattle.making.specs.Making.{Item, Runs, Stops}
 use Rattle.making.specs.Loads.{load_list, advance_list}
 use Rattle.making.proofs.Bounds.{stops_bound, stops_above}
 use Rattle.making.proofs.Lengths.{load_length, advance_length}
 use Rattle.runs.specs.Systems.{Breaking}
-use Rattle.runs.specs.Search.{Verdict, unsafe, safe, open_yet}
 use Rattle.runs.specs.Search as search
 use Rattle.runs.specs.Verdicts.{Unsafe, Meaning}
 use Rattle.runs.specs.Models.{Model, system}
 use Rattle.runs.proofs.Verdicts.{verdicts}
 use Rattle.runs.proofs.Traces as runs
 use Rattle.uses.specs.Calls.{State, empty, loaded, tell, told, Call, load, advance, trace, Stand, Event, event}
-use Rattle.uses.specs.Uses.{Step, load_full, advance_full, traces, Use, begun, went_on}
-use Rattle.uses.specs.Promise.{load_bound, advance_bound, ShortOf, Fair, Every, none, each, Meant, Says, Promised}
+use Rattle.uses.specs.declared.verdict.Verdict.{Verdict}
+use Rattle.uses.specs.Uses.{Step, load_full, loads, advance_full, advances, traces, Use, begun, went_on}
+use Rattle.uses.specs.Fair.{load_bound, advance_bound, AllMade, ShortOf, Fair}
+use Rattle.uses.specs.Says.{Meant, Says}
+use Rattle.uses.specs.Promise.{Promised}
 use Rattle.uses.proofs.Told.{tell_safe, tell_open, tell_unsafe}
 use Rattle.uses.proofs.Texts.{read_operators}
 use Rattle.uses.proofs.Written.{written_at, breaking_like}
-use Rattle.uses.proofs.Uses.{closed, Come, come}
+use Rattle.uses.proofs.Uses.{closed, step_grown, Come, come}
 
-short_of : {s t : Shown} {l : List Item} {y : Item} (bound : ℕ) → Stops s l y t → length l ≤ bound → ShortOf s t l bound y.part y.place (free t)
+short_of :
+    {s t : Shown} {l : List Item} {y : Item} (bound : ℕ)
+    → Stops s l y t
+    → length l ≤ bound
+    → ShortOf s t l bound y.part y.place (free t)
 short_of {s = s} {y = y} bound q h = record {
   item = y;
   stops = q;
@@ -31,44 +38,91 @@ short_of {s = s} {y = y} bound q h = record {
   part_is = refl;
   place_is = refl;
   units_are = refl;
+  few = h;
   uncovered = omega (arith, stops_bound q, mul-le-mul_right s.top h);
 }
 
-load_calls : {width : ℕ} {x a p : List ℕ} {m : Model} → Checked width x a p (Ok m) → length (load_list m) ≤ load_bound m (length a) (length p)
+all_made : {s t : Shown} {l : List Item} (bound : ℕ) → Runs s l t → length l ≤ bound → AllMade s t l bound
+all_made bound r h = record { runs = r; few = h }
+
+load_calls :
+    {width : ℕ} {x a p : List ℕ} {m : Model}
+    → Checked width x a p (Ok m)
+    → length (load_list m) ≤ load_bound m (length a) (length p)
 load_calls {m = m} (right d) =
     let a = read_operators d.assumption in
     let p = read_operators d.property in
     omega (arith, load_length m)
 
-load_room : {w v : Stand} {x a p : List ℕ} {q : Part} {l u : ℕ} → Step w (load x a p (Err (fault.Room q l u))) v
-    → (m : Model) × Checked w.store.vars x a p (Ok m) × ShortOf w.store v.store (load_list m) (load_bound m (length a) (length p)) q l u
-load_room (load_full {a = a} {p = p} {m = m} k q) = (m, k, short_of (load_bound m (length a) (length p)) q (load_calls k))
+load_accepted :
+    {w v : Stand} {x a p : List ℕ} {r : Verdict}
+    → Step w (load x a p (Ok r)) v
+    → (m : Model)
+    × (v.state ≡ loaded m 0)
+    × Checked w.store.vars x a p (Ok m)
+    × AllMade w.store v.store (load_list m) (load_bound m (length a) (length p))
+load_accepted (loads {a = a} {p = p} {m = m} k r) =
+    (m, refl, k, all_made (load_bound m (length a) (length p)) r (load_calls k))
 
-advance_room : {w v : Stand} {q : Part} {l u : ℕ} → Step w (advance (Err (fault.Room q l u))) v
-    → (m : Model) × (j : ℕ) × (w.state ≡ loaded m j) × ShortOf w.store v.store (advance_list m j) (advance_bound m) q l u
-advance_room (advance_full {m = m} {j = j} o q) = (m, j, refl, short_of (advance_bound m) q (advance_length m j))
+load_room :
+    {w v : Stand} {x a p : List ℕ} {q : Part} {l u : ℕ}
+    → Step w (load x a p (Err (fault.Room q l u))) v
+    → (m : Model)
+    × Checked w.store.vars x a p (Ok m)
+    × ShortOf w.store v.store (load_list m) (load_bound m (length a) (length p)) q l u
+load_room (load_full {a = a} {p = p} {m = m} k q) =
+    (m, k, short_of (load_bound m (length a) (length p)) q (load_calls k))
 
-traced : (h : List Event) {w v : Stand} {x y x' y' : List ℕ} → Come h w.state → Step w (trace x y x' y' (Ok tt)) v
-    → (m : Model) × (j : ℕ) × (w.state ≡ loaded m j) × Unsafe (system m) j × Breaking (system m) j (λ t. get_or x' t 0) (λ t. get_or y' t 0)
-traced h g (traces {m = m} {j = j} {x = x} {y = y} q v o lx ly d) = (
+advance_accepted :
+    {w v : Stand} {r : Verdict}
+    → Step w (advance (Ok r)) v
+    → (m : Model) × (j : ℕ)
+    × (w.state ≡ loaded m j)
+    × (v.state ≡ loaded m (suc j))
+    × AllMade w.store v.store (advance_list m j) (advance_bound m)
+advance_accepted (advances {m = m} {j = j} o r) =
+    (m, j, refl, refl, all_made (advance_bound m) r (advance_length m j))
+
+advance_room :
+    {w v : Stand} {q : Part} {l u : ℕ}
+    → Step w (advance (Err (fault.Room q l u))) v
+    → (m : Model) × (j : ℕ)
+    × (w.state ≡ loaded m j)
+    × ShortOf w.store v.store (advance_list m j) (advance_bound m) q l u
+advance_room (advance_full {m = m} {j = j} o q) =
+    (m, j, refl, short_of (advance_bound m) q (advance_length m j))
+
+traced :
+    (s : Shown) (h : List Event) {w v : Stand} {x y x' y' : List ℕ}
+    → Come s h w.state
+    → Step w (trace x y x' y' (Ok tt)) v
+    → (m : Model) × (j : ℕ)
+    × (w.state ≡ loaded m j)
+    × Unsafe (system m) j
+    × Breaking (system m) j (λ t. get_or x' t 0) (λ t. get_or y' t 0)
+traced s h g (traces {m = m} {j = j} {x = x} {y = y} q v o lx ly d) = (
   m,
   j,
   refl,
-  ((verdicts (system m) (closed m) j g.0).unsafely j o).1,
-  breaking_like (system m) j q v _ _ (written_at (suc j) q x) (written_at (suc j) v y) ((runs.traces (system m) (closed m) j g.0 o).breaking q v d),
+  ((verdicts (system m) (closed m) j g.reached).unsafely j o).1,
+  breaking_like (system m) j q v _ _ (written_at (suc j) q x) (written_at (suc j) v y)
+      ((runs.traces (system m) (closed m) j g.reached o).breaking q v d),
 )
 
-fair_step : (h : List Event) {w v : Stand} {c : Call} → Step w c v → Come h w.state → Fair (event w c v)
-fair_step h {w = w} {v = v} s g = record {
-  step = s;
-  load_room = λ x a p q l u e. load_room (subst (λ i. Step w i v) e s);
-  advance_room = λ q l u e. advance_room (subst (λ i. Step w i v) e s);
-  traced = λ x y x' y' e. traced h g (subst (λ i. Step w i v) e s);
+fair_step : (s : Shown) (h : List Event) {w v : Stand} {c : Call} → Step w c v → Come s h w.state → Fair (event w c v)
+fair_step s h {w = w} {v = v} k g = record {
+  step = k;
+  grown = step_grown k;
+  load_accepted = λ x a p r e. load_accepted (subst (λ i. Step w i v) e k);
+  load_room = λ x a p q l u e. load_room (subst (λ i. Step w i v) e k);
+  advance_accepted = λ r e. advance_accepted (subst (λ i. Step w i v) e k);
+  advance_room = λ q l u e. advance_room (subst (λ i. Step w i v) e k);
+  traced = λ x y x' y' e. traced s h g (subst (λ i. Step w i v) e k);
 }
 
-fair : {s : Shown} {h : List Event} {w : Stand} → Use s h w → Every Fair h
-fair begun = none
-fair (went_on {history = h} u s) = each (fair_step h s (come u)) (fair u)
+fair : {s : Shown} {h : List Event} {w : Stand} → Use s h w → All Fair h
+fair begun = All-nil Fair
+fair {s = s} (went_on {history = h} u k) = All-cons Fair _ h (fair_step s h k (come u)) (fair u)
 
 meant : (m : Model) (j : ℕ) → Meaning (system m) j → Meant m j (told (loaded m j))
 meant m j y = record {
@@ -78,9 +132,9 @@ meant m j y = record {
   openly = λ e. y.openly (tell_open (search.verdict (system m) j) e);
 }
 
-says : (h : List Event) (st : State) → Come h st → Says h st (told st)
-says h empty g = refl
-says h (loaded m j) g = (g.1, meant m j (verdicts (system m) (closed m) j g.0))
+says : (s : Shown) (h : List Event) (st : State) → Come s h st → Says s h st (told st)
+says s h empty g = (g.loads_are, refl)
+says s h (loaded m j) g = (g.loaded_by, g.advances_are, meant m j (verdicts (system m) (closed m) j g.reached))
 
 pub promised : Promised
-promised s h w u = record { fair = fair u; says = says h w.state (come u) }
+promised s h w u = record { fair = fair u; says = says s h w.state (come u) }

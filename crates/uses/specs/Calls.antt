@@ -1,5 +1,5 @@
 -- The five calls of a session with their arguments and answers, and what stands before and after each.
-use Rattle.std.specs.Prelude.{ℕ, Bool, List, ◌++◌, map, drop, Result}
+use Rattle.std.specs.Prelude.{ℕ, Bool, false, List, ◌++◌, map, drop, count_by, Result, is_ok}
 use Rattle.std.specs.List.{range_with_len}
 use Rattle.store.specs.Meaning.{Shown}
 use Rattle.making.specs.declared.fault.Fault.{Fault}
@@ -50,3 +50,24 @@ event w c v = record { before = w; call = c; after = v }
 -- xs with f 0 to f (n - 1) written over its start
 abbrev pub written : ℕ → (ℕ → ℕ) → List ℕ → List ℕ
 written n f xs = map f (range_with_len 0 n) ++ drop n xs
+
+-- whether the call was an accepted load, or an accepted advance
+abbrev pub is_load : Call → Bool
+is_load (load file a p r) = is_ok r
+is_load (advance r) = false
+is_load (ask r) = false
+is_load (trace x y x' y' r) = false
+is_load (inside q r) = false
+
+abbrev pub is_advance : Call → Bool
+is_advance (load file a p r) = false
+is_advance (advance r) = is_ok r
+is_advance (ask r) = false
+is_advance (trace x y x' y' r) = false
+is_advance (inside q r) = false
+
+abbrev pub accepted_loads : List Event → ℕ
+accepted_loads history = count_by (λ e. is_load e.call) history
+
+abbrev pub accepted_advances : List Event → ℕ
+accepted_advances history = count_by (λ e. is_advance e.call) history

@@ -1,4 +1,7 @@
 pub mod Calls
 pub mod Uses
 pub mod Promise
-pub mod Steps
+pub mod Fair
+pub mod Says
+pub mod Determined
+pub mod Possible

@@ -2,7 +2,8 @@
 #![tactic(auto)]
 
 ghost use Rattle.uses.specs.Promise.{Promised};
-ghost use Rattle.uses.specs.Steps.{Determined, Possible};
+ghost use Rattle.uses.specs.Determined.{Determined};
+ghost use Rattle.uses.specs.Possible.{Possible};
 
 pub mod verdict;
 

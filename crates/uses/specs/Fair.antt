@@ -1,0 +1,77 @@
+-- What one call of a use was.
+use Rattle.std.specs.Prelude.{◌≡◌, ℕ, suc, ◌+◌, ◌*◌, ◌<◌, ◌≤◌, List, length, Ok, Err, slice_index}
+use Rattle.store.specs.Meaning.{Shown, Grown, free, price}
+use Rattle.description.specs.Checks.{Checked}
+use Rattle.description.specs.declared.part.Part.{Part}
+use Rattle.making.specs.declared.fault.Fault.TheVariants as fault
+use Rattle.making.specs.Making.{Item, Runs, Stops, Held}
+use Rattle.making.specs.Loads.{load_list, advance_list}
+use Rattle.runs.specs.Models.{Model, system}
+use Rattle.runs.specs.Systems.{Breaking}
+use Rattle.runs.specs.Verdicts.{Unsafe}
+use Rattle.uses.specs.declared.verdict.Verdict.{Verdict}
+use Rattle.uses.specs.Calls.{loaded, load, advance, trace, Event}
+use Rattle.uses.specs.Uses.{Step}
+
+-- how many making calls a load and an advance take at most, a and p the lengths of the texts
+abbrev pub load_bound : Model → ℕ → ℕ → ℕ
+load_bound m a p = 4 * m.circuit.registers + 4 * m.circuit.inputs + 3 * length m.circuit.gates + a + p + 3
+
+abbrev pub advance_bound : Model → ℕ
+advance_bound m = 10 * m.circuit.registers + 3 * m.circuit.inputs + 3
+
+-- each call of this list, of at most `bound` calls, was accepted, and every result is held
+pub record AllMade (before after : Shown) (list : List Item) (bound : ℕ) : Type 0 where
+  pub runs : Runs before list after
+  pub few : length list ≤ bound
+
+-- the store refused a call of this list, whose price exceeded the free units there and then;
+-- and the free units at the start did not cover `bound` calls, which are no fewer than the list has
+pub record ShortOf (before after : Shown) (list : List Item) (bound : ℕ) (part : Part) (place units : ℕ) : Type 0 where
+  pub item : Item
+  pub stops : Stops before list item after
+  pub above : free after < price after item.fn
+  pub part_is : part ≡ item.part
+  pub place_is : place ≡ item.place
+  pub units_are : units ≡ free after
+  pub few : length list ≤ bound
+  pub uncovered : free before < bound * before.top
+
+-- a step by the rules, which lost nothing that the store had; and more where a load or an advance was accepted or
+-- was refused for room, or a trace was handed out
+pub record Fair (event : Event) : Type 0 where
+  pub step : Step event.before event.call event.after
+  pub grown : Grown event.before.store event.after.store
+  pub load_accepted :
+      (file a p : List ℕ) (answer : Verdict)
+      → event.call ≡ load file a p (Ok answer)
+      → (m : Model)
+      × (event.after.state ≡ loaded m 0)
+      × Checked event.before.store.vars file a p (Ok m)
+      × AllMade event.before.store event.after.store (load_list m) (load_bound m (length a) (length p))
+  pub load_room :
+      (file a p : List ℕ) (part : Part) (place units : ℕ)
+      → event.call ≡ load file a p (Err (fault.Room part place units))
+      → (m : Model)
+      × Checked event.before.store.vars file a p (Ok m)
+      × ShortOf event.before.store event.after.store (load_list m) (load_bound m (length a) (length p)) part place units
+  pub advance_accepted :
+      (answer : Verdict)
+      → event.call ≡ advance (Ok answer)
+      → (m : Model) × (j : ℕ)
+      × (event.before.state ≡ loaded m j)
+      × (event.after.state ≡ loaded m (suc j))
+      × AllMade event.before.store event.after.store (advance_list m j) (advance_bound m)
+  pub advance_room :
+      (part : Part) (place units : ℕ)
+      → event.call ≡ advance (Err (fault.Room part place units))
+      → (m : Model) × (j : ℕ)
+      × (event.before.state ≡ loaded m j)
+      × ShortOf event.before.store event.after.store (advance_list m j) (advance_bound m) part place units
+  pub traced :
+      (x y x' y' : List ℕ)
+      → event.call ≡ trace x y x' y' (Ok tt)
+      → (m : Model) × (j : ℕ)
+      × (event.before.state ≡ loaded m j)
+      × Unsafe (system m) j
+      × Breaking (system m) j (λ t. slice_index x' t) (λ t. slice_index y' t)
