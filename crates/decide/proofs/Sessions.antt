@@ -128,7 +128,7 @@ module _ (s : Shown) (m : Model) (j : ℕ) where
   -- a search of at most 8 registers makes at most 256 advances
   pub few_advances : (w : World) → Come s m j w → j ≤ 256
   few_advances w c =
-      let few = (verdicts (system m) (closed m) j (come c.led).0).few in
+      let few = (verdicts (system m) (closed m) j (come c.led).reached).few in
       let bound : 2 ^ m.circuit.registers ≤ 2 ^ 8 = pow_mono (valid_of w.store w.search c.keeps).circuit.few_registers in
       omega arith
 
@@ -146,7 +146,7 @@ told_safe m j v e o = tell_safe (verdict (system m) j) (sym e ∙ o)
 pub told_unsafe : (s : Shown) (m : Model) (j d : ℕ) (w : World) (v : Verdict) → Come s m j w → v ≡ told (loaded m j) → v ≡ answer.Unsafe d → verdict (system m) j ≡ unsafe j
 told_unsafe s m j d w v c e o =
     let h = tell_unsafe (verdict (system m) j) d (sym e ∙ o) in
-    h ∙ ap unsafe ((verdicts (system m) (closed m) j (come c.led).0).unsafely d h).0
+    h ∙ ap unsafe ((verdicts (system m) (closed m) j (come c.led).reached).unsafely d h).0
 
 -- what a refused `?` hands on
 pub handed_on : {X E : Type 0} (P : X → Type 0) (Q : E → Type 0) (r : Result X E) (e : E) → IsErrAnd r (λ y. y ≡ e) → Q e → MatchResult r P Q

@@ -34,7 +34,7 @@ module _ (w : World) (c : Call) where
   module _ (k : Search) (e : w.search ≡ Some k) where
     pub from_some : (v : World) → ((m : Model) (j : ℕ) → Reached (system m) j → Sets m j w.store k → Leads_on (loaded m j) v) → Next w c v
     from_some v p s h empty u x = never (cc)
-    from_some v p s h (loaded m j) u x = let q = p m j (come u).0 (subst (λ o. MatchOption o ⊥ (Sets m j w.store)) e x) in (q.0, went_on u q.1, q.2)
+    from_some v p s h (loaded m j) u x = let q = p m j (come u).reached (subst (λ o. MatchOption o ⊥ (Sets m j w.store)) e x) in (q.0, went_on u q.1, q.2)
 
     pub stays_some : ((m : Model) (j : ℕ) → Reached (system m) j → Sets m j w.store k → Step (stand (loaded m j) w.store) c (stand (loaded m j) w.store)) → Next w c w
     stays_some p = from_some w (λ m j r x. (loaded m j, p m j r x, subst (λ o. MatchOption o ⊥ (Sets m j w.store)) (sym e) x))
