@@ -1,3 +1,4 @@
+pub mod Numbers
 pub mod Extending
 pub mod Lines
 pub mod Checks
@@ -5,3 +6,4 @@ pub mod Marks
 pub mod Filling
 pub mod Deciding
 pub mod Passing
+pub mod Written

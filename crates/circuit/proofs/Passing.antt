@@ -1,7 +1,7 @@
 -- What a circuit file that passes the checks says.
 use Rattle.std.proofs.Common.{◌≡◌, ℕ, ◌+◌, ◌-◌, ◌*◌, ◌<◌, ◌≤◌, Bool, true, false, not, eqb, ltb, List, length, Ok, Result, refl, subst, arith}
 use Rattle.std.proofs.lemmas.List.FromFn.{length-map-range_with_len}
-use Rattle.std.proofs.lemmas.Bool.{ltb-false, or_parts}
+use Rattle.std.proofs.lemmas.Bool.{ltb-false, eqb-true, not-false, or_parts}
 use Rattle.std.proofs.lemmas.Bool.Decides.{not_from_Decides}
 use Rattle.circuit.specs.declared.refusal.Refusal.{Refusal}
 use Rattle.circuit.specs.declared.refusal.Refusal.TheVariants.{Length, Size, Width, Wire, Start}
@@ -27,6 +27,7 @@ record Passed (width : ℕ) (bs : List ℕ) (c : Netlist) : Type 0 where
   sized : outside 1 8 (registers bs) ≡ false
   narrow : ltb 8 (inputs bs) ≡ false
   gated : outside (registers bs + 1) 1024 (count bs) ≡ false
+  long : not (eqb (length bs) (6 + 4 * count bs)) ≡ false
   fits : ltb width (2 * registers bs + inputs bs) ≡ false
   wired : ltb (first_miswired (says bs)) (length (says bs).gates) ≡ false
   apart : touching (says bs) (init_line (says bs)) ≡ false
@@ -42,10 +43,13 @@ all_passed width bs c h =
     let g = passed (ltb width (2 * registers bs + inputs bs)) (Width (2 * registers bs + inputs bs)) _ c f.1 in
     let i = passed (ltb (first_miswired (says bs)) (length (says bs).gates)) (Wire (first_miswired (says bs))) _ c g.1 in
     let j = passed (touching (says bs) (init_line (says bs))) (Start (length (says bs).gates - 1)) _ c i.1 in
-    record { sized = b.0; narrow = d.0; gated = e.0; fits = g.0; wired = i.0; apart = j.0; is = ok_same (says bs) c j.1 }
+    record { sized = b.0; narrow = d.0; gated = e.0; long = f.0; fits = g.0; wired = i.0; apart = j.0; is = ok_same (says bs) c j.1 }
 
 pub reading_says : (width : ℕ) (bs : List ℕ) (c : Netlist) → reading width bs ≡ Ok c → says bs ≡ c
 reading_says width bs c h = (all_passed width bs c h).is
+
+pub reading_long : (width : ℕ) (bs : List ℕ) (c : Netlist) → reading width bs ≡ Ok c → length bs ≡ 6 + 4 * count bs
+reading_long width bs c h = eqb-true _ _ (not-false _ (all_passed width bs c h).long)
 
 pub says_count : (bs : List ℕ) → length (says bs).gates ≡ count bs
 says_count bs = length-map-range_with_len (gate_at bs (count bs)) 0 (count bs)

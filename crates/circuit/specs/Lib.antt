@@ -3,6 +3,7 @@ pub mod Netlists
 pub mod Lines
 pub mod Files
 pub mod Rules
+pub mod Laws
 pub mod Reading
 pub mod Steps
 pub mod Texts

@@ -1,8 +1,9 @@
 // Circuit files: read, or refused with the first fault.
 #![tactic(auto)]
 
-ghost use Rattle.std.specs.Prelude.{◌≡◌, ℕ, ◌+◌, ◌*◌, IfOk, Err, MatchResult};
+ghost use Rattle.std.specs.Prelude.{◌≡◌, ◌↔◌, ℕ, ◌+◌, ◌*◌, IfOk, IsOk, Ok, Err, MatchResult};
 ghost use Rattle.circuit.specs.Files.{number_at, sizes_at};
+ghost use Rattle.circuit.specs.Laws.{FileOf, Acceptable};
 ghost use Rattle.circuit.specs.Netlists.{Netlist};
 ghost use Rattle.circuit.specs.Reading.{netlist, answered};
 ghost use Rattle.circuit.specs.Rules.{Sound, Determined, reading, Tested};
@@ -78,11 +79,21 @@ fn read_sizes(file: &[u8]) -> Result<Sizes, Refusal>
     Ok(sizes)
 }
 
-// Reads a circuit file for a store of `width` variables.
+/// Reads a circuit file for a store of `width` variables, or refuses it with the first fault.
 pub fn read(file: &[u8], width: u8) -> Result<Circuit, Refusal>
+    ensures written { (c : Netlist) → (answered result ≡ Ok c) ↔ FileOf width file.now c }
+    ensures accepted { IsOk result ↔ Acceptable width file.now }
     ensures reads { answered result ≡ reading width file.now }
     ensures sound { IfOk result (λ c. Sound (netlist c)) }
     ensures determined { IfOk result (λ c. Determined (netlist c)) }
+{
+    let netlist = read_netlist(file, width)?;
+    Ok(Circuit { netlist })
+}
+
+fn read_netlist(file: &[u8], width: u8) -> Result<Netlist, Refusal>
+    ensures reads { result ≡ reading width file.now }
+    ensures sound { IfOk result Sound }
 {
     let sizes = read_sizes(file)?;
     if file.len() != file_length(sizes.gates) {
@@ -94,7 +105,7 @@ pub fn read(file: &[u8], width: u8) -> Result<Circuit, Refusal>
     }
     let netlist = Netlist::read(file, sizes);
     netlist.check()?;
-    Ok(Circuit { netlist })
+    Ok(netlist)
 }
 
 // The tests that the checks are stated by tell what they should.

@@ -1,15 +1,15 @@
 ghost use Rattle.std.specs.Prelude.{◌≡◌};
 ghost use Rattle.description.specs.Faults.{part_number};
 
-// What a fault lies in.
+/// What a fault lies in, with the number that a notice tells.
 #[derive(Clone, Copy, PartialEq, Eq, Debug)]
 pub enum Part {
-    Job,
-    Circuit,
-    Assumption,
-    Property,
-    Sets,
-    Call,
+    Job = 0,
+    Circuit = 1,
+    Assumption = 2,
+    Property = 3,
+    Sets = 4,
+    Call = 5,
 }
 
 impl Part {

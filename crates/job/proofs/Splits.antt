@@ -9,7 +9,7 @@ use Rattle.job.specs.Frames.{Parts, circuit_length, assumption_length, property_
 number_front : (bs : List ℕ) (i : ℕ) → 2 * i + 1 < 4 → number_at (take 4 bs) i ≡ number_at bs i
 number_front bs i l = ap₂ (λ x y. x + 256 * y) (get_or-take 4 bs (2 * i) 0 (omega arith)) (get_or-take 4 bs (2 * i + 1) 0 l)
 
-count_back : (bs : List ℕ) → count (drop 4 bs) ≡ number_at bs 4
+pub count_back : (bs : List ℕ) → count (drop 4 bs) ≡ number_at bs 4
 count_back bs = ap₂ (λ x y. x + 256 * y) (get_or-drop 4 bs 4 0) (get_or-drop 4 bs 5 0)
 
 -- the lengths, and then the parts one after the other

@@ -1,6 +1,6 @@
 -- A job: the lengths of the two texts as file numbers, the circuit file, the assumption and the property.
-use Rattle.std.specs.Prelude.{ℕ, ◌+◌, ◌*◌, cond, List, length, take, drop, Ok, Err, Result, ◌==◌, nat_lt}
-use Rattle.circuit.specs.Files.{number_at}
+use Rattle.std.specs.Prelude.{◌≡◌, ℕ, ◌+◌, ◌*◌, cond, List, ◌++◌, length, take, drop, Ok, Err, Result, ◌==◌, nat_lt}
+use Rattle.circuit.specs.Files.{number_at, number_bytes, count}
 use Rattle.description.specs.declared.source.Source.{Source}
 use Rattle.job.specs.declared.fault.Fault.{Fault}
 use Rattle.job.specs.declared.fault.Fault.TheVariants.{Length}
@@ -9,6 +9,20 @@ pub record Parts : Type 0 where
   pub circuit : List ℕ
   pub assumption : List ℕ
   pub property : List ℕ
+
+-- the bytes of a job with these parts: the length of each text, and then the parts
+abbrev pub bytes_of : Parts → List ℕ
+bytes_of p =
+    number_bytes (length p.assumption)
+    ++ (number_bytes (length p.property)
+    ++ (p.circuit
+    ++ (p.assumption
+    ++ p.property)))
+
+-- the bytes are a job with these parts, where the circuit file is as long as its own count of gates says
+pub record Framed (bs : List ℕ) (p : Parts) : Type 0 where
+  pub bytes : bs ≡ bytes_of p
+  pub circuit : length p.circuit ≡ 6 + 4 * count p.circuit
 
 -- the length of the circuit file, whose third number counts the gates
 abbrev pub circuit_length : List ℕ → ℕ

@@ -1,8 +1,8 @@
 // Jobs: the frame that holds a circuit file and two texts.
 #![tactic(auto)]
 
-ghost use Rattle.std.specs.Prelude.{◌≡◌};
-ghost use Rattle.job.specs.Frames.{frame, framed};
+ghost use Rattle.std.specs.Prelude.{◌≡◌, ◌↔◌, Ok};
+ghost use Rattle.job.specs.Frames.{Parts, Framed, frame, framed};
 
 pub mod fault;
 
@@ -17,9 +17,10 @@ pub const VARIABLES: u8 = MOST_VARIABLES;
 // The bytes of the longest job: the lengths, the circuit file with the most gates, and two longest texts. Written out, since a constant calls no function.
 pub const LONGEST: u64 = 4 + (6 + 4 * MOST_GATES as u64) + 2 * claim::LONGEST as u64;
 
-// Cuts a job into the circuit file, the assumption and the property.
+/// Cuts a job into the circuit file, the assumption and the property, or refuses its length.
 pub fn split(job: &[u8]) -> Result<Source, Fault>
-    ensures { framed result ≡ frame job.now }
+    ensures parts { (p : Parts) → (framed result ≡ Ok p) ↔ Framed job.now p }
+    ensures answer { framed result ≡ frame job.now }
 {
     let wrong = Fault::Length(job.len());
     let (lengths, parts) = job.split_at_checked(4).ok_or(wrong)?;

@@ -14,7 +14,7 @@ parts s = record { circuit = s.circuit.now; assumption = s.assumption.now; prope
 pub returns-in_err-source : goal.returns-in_err-source
 returns-in_err-source g c =
     refuses (g.S.Store.shows c.args.store) c.args.job.now c.from_residual.result (Unframed c.in_err-source.field-0.0) c.from_residual.ensures.1
-    (unframed (sym c.in_err-source.ensures))
+    (unframed (sym c.in_err-source.ensures.answer))
 
 pub returns-in_err-load : goal.returns-in_err-load
 returns-in_err-load g c =
@@ -22,7 +22,7 @@ returns-in_err-load g c =
     let n = c.new-session.ensures in
     let b = loaded_by s (world g.S.Store.shows c.new-session.result) (world g.S.Store.shows c.load.new.self) n.store n.keeps c.in_err-load.ensures.next in
     refuses s c.args.job.now c.from_residual-in_err-load.result (Call c.in_err-load.field-0.0) c.from_residual-in_err-load.ensures.1
-    (not_begun s c.args.job.now (parts c.in_ok-source.source) (sym c.in_ok-source.ensures) c.in_err-load.field-0.0 b)
+    (not_begun s c.args.job.now (parts c.in_ok-source.source) (sym c.in_ok-source.ensures.answer) c.in_err-load.field-0.0 b)
 
 pub returns-in_err-settled : goal.returns-in_err-settled
 returns-in_err-settled g c =
@@ -30,7 +30,7 @@ returns-in_err-settled g c =
     let n = c.new-session.ensures in
     let b = loaded_by s (world g.S.Store.shows c.new-session.result) (world g.S.Store.shows c.load.new.self) n.store n.keeps c.in_ok-load.ensures.next in
     refuses s c.args.job.now c.from_residual-in_err-settled.result (Call c.in_err-settled.field-0.0) c.from_residual-in_err-settled.ensures.1
-    (not_settled s c.args.job.now (parts c.in_ok-source.source) (sym c.in_ok-source.ensures) b.model b.describes c.in_err-settled.field-0.0
+    (not_settled s c.args.job.now (parts c.in_ok-source.source) (sym c.in_ok-source.ensures.answer) b.model b.describes c.in_err-settled.field-0.0
     (c.in_err-settled.ensures.settles s b.model b.come))
 
 pub conclude-requires : goal.conclude-requires
@@ -54,5 +54,5 @@ returns g c =
     let n = c.new-session.ensures in
     let b = loaded_by s (world g.S.Store.shows c.new-session.result) (world g.S.Store.shows c.load.new.self) n.store n.keeps c.in_ok-load.ensures.next in
     let e = c.in_ok-settled.ensures.settles s b.model b.come in
-    concluded s c.args.job.now (parts c.in_ok-source.source) (sym c.in_ok-source.ensures) b.model b.describes _ _ _ e.come.searched
+    concluded s c.args.job.now (parts c.in_ok-source.source) (sym c.in_ok-source.ensures.answer) b.model b.describes _ _ _ e.come.searched
     (c.in_ok-conclude.ensures s b.model e (sizes_are s.vars c.in_ok-source.source.circuit.now b.model.circuit b.describes.circuit))
