@@ -2,28 +2,24 @@
 use Rattle.std.specs.Prelude.{◌≡◌, ℕ, zero, suc, ◌*◌, ◌/◌, ◌%◌, ◌^◌, Bool, true, false, not, ◌||◌, List, [], ◌∷◌, codes, slice_index}
 use Prim.Native.String.{String}
 use Rattle.store.specs.Fun.{Fn, some}
+use Rattle.circuit.specs.Files.{bytes_of}
 use Rattle.runs.specs.Systems.{System}
 use Rattle.runs.specs.Search.{leads_into, inside, unsafe, safe, open_yet, verdict_by, verdict, Trace}
 use Rattle.runs.specs.Functions.{register, spread, both, either, composed_all, quantified}
 use Rattle.runs.specs.Models.{Model, system, Describes}
 use Rattle.runs.specs.Valuations.{claim_fn, next_fn, set_fn}
 
--- the file of these numbers: two bytes each, low byte first
-abbrev pub file_of : List ℕ → List ℕ
-file_of [] = []
-file_of (n ∷ ns) = n % 256 ∷ n / 256 ∷ file_of ns
-
 -- sizes, left literals, right literals: one register, which begins as 0 and takes over the input
 abbrev pub F : List ℕ
-F = file_of (1 ∷ 1 ∷ 2 ∷ 4 ∷ 3 ∷ 4 ∷ 3 ∷ [])
+F = bytes_of (1 ∷ 1 ∷ 2 ∷ 4 ∷ 3 ∷ 4 ∷ 3 ∷ [])
 
 -- two registers, which are swapped; the first begins as 1 and the second as 0
 abbrev pub W : List ℕ
-W = file_of (2 ∷ 0 ∷ 3 ∷ 4 ∷ 2 ∷ 2 ∷ 4 ∷ 2 ∷ 5 ∷ [])
+W = bytes_of (2 ∷ 0 ∷ 3 ∷ 4 ∷ 2 ∷ 2 ∷ 4 ∷ 2 ∷ 5 ∷ [])
 
 -- two registers, which begin as 0: the first takes over the input, and the second the first
 abbrev pub D : List ℕ
-D = file_of (2 ∷ 1 ∷ 3 ∷ 6 ∷ 2 ∷ 3 ∷ 6 ∷ 2 ∷ 5 ∷ [])
+D = bytes_of (2 ∷ 1 ∷ 3 ∷ 6 ∷ 2 ∷ 3 ∷ 6 ∷ 2 ∷ 5 ∷ [])
 
 -- the file, with the assumption h and the property p, is a model of which P holds
 abbrev pub With : List ℕ → String → String → (Model → Type 0) → Type 0
