@@ -1,0 +1,32 @@
+-- Which calls of a session a list of exchanges was.
+use Rattle.std.specs.Prelude.{◌≡◌, List, [], ◌∷◌, map, reverse}
+use Rattle.uses.specs.Calls.{Call, load, advance, ask, trace, inside, Stand, Event}
+use Rattle.requests.specs.declared.request.Request.{Request}
+use Rattle.requests.specs.declared.request.Request.TheVariants as request
+use Rattle.requests.specs.declared.exchange.Exchange.{Exchange}
+use Rattle.requests.specs.declared.reply.Reply.{Reply}
+use Rattle.requests.specs.declared.reply.Reply.TheVariants as reply
+
+-- The call that a request was, as the request was handed in and as it came back, with its reply. Only the arrays of a trace may come back changed.
+abbrev pub IsCall : (asked answered : Request) → Reply → Call → Type 0
+IsCall (request.Load x a p) back (reply.Load r) c = (back ≡ request.Load x a p) × (c ≡ load x.items a.items p.items r)
+IsCall request.Advance back (reply.Advance r) c = (back ≡ request.Advance) × (c ≡ advance r)
+IsCall request.Verdict back (reply.Verdict r) c = (back ≡ request.Verdict) × (c ≡ ask r)
+IsCall (request.Trace x y) (request.Trace x' y') (reply.Trace r) c = c ≡ trace x.items y.items x'.items y'.items r
+IsCall (request.Inside q) back (reply.Inside r) c = (back ≡ request.Inside q) × (c ≡ inside q r)
+IsCall _ _ _ c = ⊥
+
+-- The calls are these requests with these replies, one by one.
+pub data AreCalls : (asked answered : List Exchange) → List Call → Type 0 where
+  none : AreCalls [] [] []
+  more : {x y : Exchange} {c : Call} {xs ys : List Exchange} {cs : List Call} → IsCall x.request y.request y.reply c → AreCalls xs ys cs
+      → AreCalls (x ∷ xs) (y ∷ ys) (c ∷ cs)
+
+-- The calls of a history, the earliest first; a history has its latest event first.
+abbrev pub calls : List Event → List Call
+calls history = reverse (map (λ e. e.call) history)
+
+-- Where a history that led to v began.
+abbrev pub first : List Event → Stand → Stand
+first [] v = v
+first (e ∷ history) v = first history e.before

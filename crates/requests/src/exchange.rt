@@ -1,0 +1,9 @@
+use super::reply::Reply;
+use super::request::Request;
+
+/// A request, and the reply, which the call writes over whatever stands there.
+#[derive(Drop)]
+pub struct Exchange {
+    pub request: Request,
+    pub reply: Reply,
+}

@@ -1,0 +1,56 @@
+// Any use of a session: a list of requests, made in order of a new session over any store, with the replies written beside them.
+#![tactic(auto)]
+
+ghost use Rattle.store.specs.Meaning.{Shown};
+ghost use Rattle.engine.specs.Keeping.{world};
+ghost use Rattle.requests.specs.Progress.{Answers, AllAnswered};
+ghost use Rattle.requests.specs.Served.{Served};
+
+pub mod exchange;
+pub mod reply;
+pub mod request;
+
+use description::source::Source;
+use engine::session::Session;
+use exchange::Exchange;
+use reply::Reply;
+use request::Request;
+use store::Store;
+
+/// Makes every request in order of a new session over the store, writes each reply, and hands the store back.
+pub fn serve<S: Store>(store: S, exchanges: &mut [Exchange]) -> S
+    ensures { Served (S.Store.shows store) exchanges.old exchanges.new (S.Store.shows result) }
+{
+    let mut session = Session::new(store);
+    answer_all(&mut session, exchanges);
+    session.into_store()
+}
+
+fn answer_all<S: Store>(session: &mut Session<S>, exchanges: &mut [Exchange])
+    ensures { AllAnswered (world S.Store.shows session.old) exchanges.old exchanges.new (world S.Store.shows session.new) }
+{
+    for exchange in exchanges.iter_mut() {
+        exchange.reply = answer(session, &mut exchange.request);
+    }
+}
+
+// Makes one request. The arrays of a trace are filled in place.
+fn answer<S: Store>(session: &mut Session<S>, request: &mut Request) -> Reply
+    ensures { Answers (world S.Store.shows session.old) request.old request.new result (world S.Store.shows session.new) }
+{
+    match request {
+        Request::Load {
+            circuit,
+            assumption,
+            property,
+        } => Reply::Load(session.load(Source {
+            circuit,
+            assumption,
+            property,
+        })),
+        Request::Advance => Reply::Advance(session.advance()),
+        Request::Verdict => Reply::Verdict(session.verdict()),
+        Request::Trace { states, inputs } => Reply::Trace(session.trace(states, inputs)),
+        Request::Inside(state) => Reply::Inside(session.inside(*state)),
+    }
+}
