@@ -1,5 +1,6 @@
 -- Which calls of a session a list of exchanges was.
-use Rattle.std.specs.Prelude.{◌≡◌, List, [], ◌∷◌, map, reverse}
+use Rattle.std.specs.Prelude.{◌≡◌, ℕ, List, [], ◌∷◌, map, reverse}
+use Rattle.std.specs.Borrow.{MutBor}
 use Rattle.uses.specs.Calls.{Call, load, advance, ask, trace, inside, Stand, Event}
 use Rattle.requests.specs.declared.request.Request.{Request}
 use Rattle.requests.specs.declared.request.Request.TheVariants as request
@@ -7,12 +8,16 @@ use Rattle.requests.specs.declared.exchange.Exchange.{Exchange}
 use Rattle.requests.specs.declared.reply.Reply.{Reply}
 use Rattle.requests.specs.declared.reply.Reply.TheVariants as reply
 
+-- A lent array is still the one that was lent, whatever is written to it.
+abbrev pub SameArray : MutBor (List ℕ) → MutBor (List ℕ) → Type 0
+SameArray a b = b.ghost_name ≡ a.ghost_name
+
 -- The call that a request was, as the request was handed in and as it came back, with its reply. Only the arrays of a trace may come back changed.
 abbrev pub IsCall : (asked answered : Request) → Reply → Call → Type 0
-IsCall (request.Load x a p) back (reply.Load r) c = (back ≡ request.Load x a p) × (c ≡ load x.items a.items p.items r)
+IsCall (request.Load s) back (reply.Load r) c = (back ≡ request.Load s) × (c ≡ load s.circuit.now s.assumption.now s.property.now r)
 IsCall request.Advance back (reply.Advance r) c = (back ≡ request.Advance) × (c ≡ advance r)
 IsCall request.Verdict back (reply.Verdict r) c = (back ≡ request.Verdict) × (c ≡ ask r)
-IsCall (request.Trace x y) (request.Trace x' y') (reply.Trace r) c = c ≡ trace x.items y.items x'.items y'.items r
+IsCall (request.Trace x y) (request.Trace x' y') (reply.Trace r) c = SameArray x x' × SameArray y y' × (c ≡ trace x.now y.now x'.now y'.now r)
 IsCall (request.Inside q) back (reply.Inside r) c = (back ≡ request.Inside q) × (c ≡ inside q r)
 IsCall _ _ _ c = ⊥
 

@@ -1,18 +1,16 @@
+use description::source::Source;
+
 /// A call of a session, with its arguments.
 #[derive(Drop)]
-pub enum Request {
+pub enum Request<'a> {
     /// A circuit file, an assumption and a property.
-    Load {
-        circuit: Vec<u8>,
-        assumption: Vec<u8>,
-        property: Vec<u8>,
-    },
+    Load(Source<'a>),
     Advance,
     Verdict,
     /// Two arrays, of which the call writes the starts.
     Trace {
-        states: Vec<u16>,
-        inputs: Vec<u16>,
+        states: &'a mut [u16],
+        inputs: &'a mut [u16],
     },
     /// A state number.
     Inside(u16),
