@@ -1,4 +1,4 @@
-// Any use of a session: a list of requests, made in order of a new session over any store, with the replies written beside them.
+// Any use of a session: requests made in order of a new session over any store, with the replies beside them.
 #![tactic(auto)]
 
 ghost use Rattle.store.specs.Meaning.{Shown};
@@ -55,7 +55,9 @@ fn trace<S: Store>(
     states: &mut &mut [u16],
     inputs: &mut &mut [u16],
 ) -> Result<(), Fault>
-    ensures next { Next (world S.Store.shows session.old) (trace states.old.now inputs.old.now states.new.now inputs.new.now result) (world S.Store.shows session.new) }
+    ensures next { Next (world S.Store.shows session.old)
+        (trace states.old.now inputs.old.now states.new.now inputs.new.now result)
+        (world S.Store.shows session.new) }
     ensures same_arrays { SameArray states.old states.new × SameArray inputs.old inputs.new }
 {
     session.trace(*states, *inputs)

@@ -13,5 +13,5 @@ returns g c =
     let v = world shows c.answer_all.new.session in
     let xs = c.args.exchanges.now in
     let ys = c.answer_all.new.exchanges in
-    let p = c.answer_all.ensures start (progress_new start w n.store n.begun n.keeps) in
+    let p = c.answer_all.ensures start (progress_new start w n.begun n.keeps) in
     subst (λ t. Served start xs ys t) (sym c.into_store.ensures) (served start v xs ys p)
