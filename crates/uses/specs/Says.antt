@@ -8,7 +8,7 @@ use Rattle.uses.specs.declared.verdict.Verdict.TheVariants as verdict
 use Rattle.uses.specs.Calls.{State, empty, loaded, load, Event, accepted_loads, accepted_advances}
 
 -- one load was accepted, and m is what its bytes and texts describe for the store
-pub record Loaded (start : Shown) (history : List Event) (m : Model) : Type 0 where
+pub record OneLoad (start : Shown) (history : List Event) (m : Model) : Type 0 where
   pub event : Event
   pub past : Contains history event
   pub file : List ℕ
@@ -30,6 +30,6 @@ pub record Meant (m : Model) (j : ℕ) (answer : Verdict) : Type 0 where
 abbrev pub Says : Shown → List Event → State → Verdict → Type 0
 Says start history empty answer = (accepted_loads history ≡ 0) × (answer ≡ verdict.Empty)
 Says start history (loaded m j) answer =
-    Loaded start history m
+    OneLoad start history m
     × (j ≡ accepted_advances history)
     × Meant m j answer
