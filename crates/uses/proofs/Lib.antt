@@ -2,6 +2,7 @@ pub mod Told
 mod Texts
 pub mod Written
 pub mod Uses
+mod Unchanged
 pub mod Promises
 mod Determined
 mod Possible

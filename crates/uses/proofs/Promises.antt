@@ -24,6 +24,7 @@ use Rattle.uses.specs.Promise.{Promised}
 use Rattle.uses.proofs.Told.{tell_safe, tell_open, tell_unsafe}
 use Rattle.uses.proofs.Texts.{read_operators}
 use Rattle.uses.proofs.Written.{written_at, breaking_like}
+use Rattle.uses.proofs.Unchanged.{same_but, same_arrays}
 use Rattle.uses.proofs.Uses.{closed, step_grown, Come, come}
 
 short_of :
@@ -113,11 +114,14 @@ fair_step : (s : Shown) (h : List Event) {w v : Stand} {c : Call} → Step w c v
 fair_step s h {w = w} {v = v} k g = record {
   step = k;
   grown = step_grown k;
+  same_state = λ l a. (same_but k l a).0;
+  same_store = λ l a. (same_but k l a).1;
   load_accepted = λ x a p r e. load_accepted (subst (λ i. Step w i v) e k);
   load_room = λ x a p q l u e. load_room (subst (λ i. Step w i v) e k);
   advance_accepted = λ r e. advance_accepted (subst (λ i. Step w i v) e k);
   advance_room = λ q l u e. advance_room (subst (λ i. Step w i v) e k);
   traced = λ x y x' y' e. traced s h g (subst (λ i. Step w i v) e k);
+  same_arrays = λ x y x' y' r e. same_arrays (subst (λ i. Step w i v) e k);
 }
 
 fair : {s : Shown} {h : List Event} {w : Stand} → Use s h w → All Fair h

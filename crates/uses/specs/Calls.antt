@@ -1,8 +1,9 @@
 -- The five calls of a session with their arguments and answers, and what stands before and after each.
-use Rattle.std.specs.Prelude.{ℕ, Bool, false, List, ◌++◌, map, drop, count_by, Result, is_ok}
+use Rattle.std.specs.Prelude.{ℕ, Bool, true, false, List, ◌++◌, map, drop, count_by, Ok, Err, Result, is_ok}
 use Rattle.std.specs.List.{range_with_len}
 use Rattle.store.specs.Meaning.{Shown}
 use Rattle.making.specs.declared.fault.Fault.{Fault}
+use Rattle.making.specs.declared.fault.Fault.TheVariants as fault
 use Rattle.runs.specs.Models.{Model, system}
 use Rattle.runs.specs.Search as search
 use Rattle.uses.specs.declared.verdict.Verdict.{Verdict}
@@ -51,7 +52,7 @@ event w c v = record { before = w; call = c; after = v }
 abbrev pub written : ℕ → (ℕ → ℕ) → List ℕ → List ℕ
 written n f xs = map f (range_with_len 0 n) ++ drop n xs
 
--- whether the call was an accepted load, or an accepted advance
+-- whether the call was an accepted load
 abbrev pub is_load : Call → Bool
 is_load (load file a p r) = is_ok r
 is_load (advance r) = false
@@ -59,12 +60,25 @@ is_load (ask r) = false
 is_load (trace x y x' y' r) = false
 is_load (inside q r) = false
 
+-- or an accepted advance
 abbrev pub is_advance : Call → Bool
 is_advance (load file a p r) = false
 is_advance (advance r) = is_ok r
 is_advance (ask r) = false
 is_advance (trace x y x' y' r) = false
 is_advance (inside q r) = false
+
+abbrev pub for_room : {X : Type 0} → Result X Fault → Bool
+for_room (Err (fault.Room part place units)) = true
+for_room _ = false
+
+-- whether it was refused for room
+abbrev pub is_full : Call → Bool
+is_full (load file a p r) = for_room r
+is_full (advance r) = for_room r
+is_full (ask r) = false
+is_full (trace x y x' y' r) = for_room r
+is_full (inside q r) = for_room r
 
 abbrev pub accepted_loads : List Event → ℕ
 accepted_loads history = count_by (λ e. is_load e.call) history

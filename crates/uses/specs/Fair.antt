@@ -1,8 +1,9 @@
 -- What one call of a use was.
-use Rattle.std.specs.Prelude.{◌≡◌, ℕ, suc, ◌+◌, ◌*◌, ◌<◌, ◌≤◌, List, length, Ok, Err, slice_index}
+use Rattle.std.specs.Prelude.{◌≡◌, ℕ, suc, ◌+◌, ◌*◌, ◌<◌, ◌≤◌, false, List, length, Ok, Err, slice_index}
 use Rattle.store.specs.Meaning.{Shown, Grown, free, price}
 use Rattle.description.specs.Checks.{Checked}
 use Rattle.description.specs.declared.part.Part.{Part}
+use Rattle.making.specs.declared.fault.Fault.{Fault}
 use Rattle.making.specs.declared.fault.Fault.TheVariants as fault
 use Rattle.making.specs.Making.{Item, Runs, Stops, Held}
 use Rattle.making.specs.Loads.{load_list, advance_list}
@@ -10,7 +11,7 @@ use Rattle.runs.specs.Models.{Model, system}
 use Rattle.runs.specs.Systems.{Breaking}
 use Rattle.runs.specs.Verdicts.{Unsafe}
 use Rattle.uses.specs.declared.verdict.Verdict.{Verdict}
-use Rattle.uses.specs.Calls.{loaded, load, advance, trace, Event}
+use Rattle.uses.specs.Calls.{loaded, load, advance, trace, Event, is_load, is_advance, is_full}
 use Rattle.uses.specs.Uses.{Step}
 
 -- how many making calls a load and an advance take at most, a and p the lengths of the texts
@@ -37,11 +38,22 @@ pub record ShortOf (before after : Shown) (list : List Item) (bound : ℕ) (part
   pub few : length list ≤ bound
   pub uncovered : free before < bound * before.top
 
--- a step by the rules, which lost nothing that the store had; and more where a load or an advance was accepted or
--- was refused for room, or a trace was handed out
+-- a step by the rules
 pub record Fair (event : Event) : Type 0 where
   pub step : Step event.before event.call event.after
+  -- nothing that the store had is lost
   pub grown : Grown event.before.store event.after.store
+  -- only an accepted load or advance changes the session, and only these and a refusal for room change the store
+  pub same_state :
+      is_load event.call ≡ false
+      → is_advance event.call ≡ false
+      → event.after.state ≡ event.before.state
+  pub same_store :
+      is_load event.call ≡ false
+      → is_advance event.call ≡ false
+      → is_full event.call ≡ false
+      → event.after.store ≡ event.before.store
+  -- the list of an accepted load or advance was made, and that of one refused for room was not
   pub load_accepted :
       (file a p : List ℕ) (answer : Verdict)
       → event.call ≡ load file a p (Ok answer)
@@ -68,6 +80,7 @@ pub record Fair (event : Event) : Type 0 where
       → (m : Model) × (j : ℕ)
       × (event.before.state ≡ loaded m j)
       × ShortOf event.before.store event.after.store (advance_list m j) (advance_bound m) part place units
+  -- a trace that is handed out is a shortest run of those that break the property, and a refused one changes no array
   pub traced :
       (x y x' y' : List ℕ)
       → event.call ≡ trace x y x' y' (Ok tt)
@@ -75,3 +88,7 @@ pub record Fair (event : Event) : Type 0 where
       × (event.before.state ≡ loaded m j)
       × Unsafe (system m) j
       × Breaking (system m) j (λ t. slice_index x' t) (λ t. slice_index y' t)
+  pub same_arrays :
+      (x y x' y' : List ℕ) (reason : Fault)
+      → event.call ≡ trace x y x' y' (Err reason)
+      → (x' ≡ x) × (y' ≡ y)
