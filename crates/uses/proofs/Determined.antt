@@ -1,5 +1,6 @@
 -- A call with its arguments has one answer, if the store then shows the same.
-use Rattle.std.proofs.Common.{◌≡◌, ℕ, suc, Bool, true, cond, List, Ok, Err, Result, sym, refl, ap, ap₂, ◌∙◌, subst, arith}
+use Rattle.std.proofs.Common.{◌≡◌, ℕ, suc, Bool, true, cond, List, Ok, Err, Result, sym, refl, ap, ap₂, ◌∙◌}
+use Rattle.std.proofs.Common.{subst, arith}
 use Rattle.store.specs.Meaning.{Shown, Lawful, holds}
 use Rattle.description.specs.Checks.{Checked}
 use Rattle.description.specs.declared.fault.Fault.{Fault as Misdescription}
@@ -13,7 +14,10 @@ use Rattle.runs.specs.Models.{Model, system}
 use Rattle.runs.proofs.Traces as runs
 use Rattle.uses.specs.declared.verdict.Verdict.{Verdict}
 use Rattle.uses.specs.Calls.{loaded, told, Call, load, advance, ask, trace, inside, Stand, Event}
-use Rattle.uses.specs.Uses.{room, Step, load_twice, load_wrong, load_full, loads, advance_empty, advance_settled, advance_full, advances, asks, trace_empty, trace_verdict, trace_short, traces, inside_empty, inside_verdict, inside_state, insides}
+use Rattle.uses.specs.Uses.{Step, load_twice, load_wrong, load_full, loads, advance_empty, advance_settled}
+use Rattle.uses.specs.Uses.{advance_full, advances, asks, trace_empty, trace_verdict, trace_short, traces}
+use Rattle.uses.specs.Uses.{inside_empty, inside_verdict, inside_state, insides}
+use Rattle.uses.specs.Uses.{room}
 use Rattle.uses.specs.Determined.{Alike, both_load, both_advance, both_ask, both_trace, both_inside, Determined}
 use Rattle.uses.proofs.Told.{never}
 use Rattle.uses.proofs.Written.{written_like}
@@ -41,7 +45,8 @@ module _ {s t u : Shown} {l : List Item} (e : t ≡ u) where
 
   not_stopped : {y : Item} → Runs s l t → Stops s l y u → ⊥
   not_stopped r q =
-      not_all (sym (none_missing (subst (λ v. Held v l) e (runs_held (subst Lawful (sym e) (stops_lawful q)) r))) ∙ stops_missing q)
+      let held = runs_held (subst Lawful (sym e) (stops_lawful q)) r in
+      not_all (sym (none_missing (subst (λ v. Held v l) e held)) ∙ stops_missing q)
 
   one_room : {x y : Item} → Stops s l x t → Stops s l y u → room x t ≡ room y u
   one_room q q' = ap₂ room (one_item q q') e
@@ -57,7 +62,11 @@ module _ {width : ℕ} {x a p : List ℕ} where
   same_fault : {e e' : Misdescription} → Checked width x a p (Err e) → Checked width x a p (Err e') → e ≡ e'
   same_fault k k' = let h = one_check k k' in cc
 
-  not_both : {X : Type 0} {m : Model} {e : Misdescription} → Checked width x a p (Ok m) → Checked width x a p (Err e) → X
+  not_both :
+      {X : Type 0} {m : Model} {e : Misdescription}
+      → Checked width x a p (Ok m)
+      → Checked width x a p (Err e)
+      → X
   not_both k k' = let h = one_check k k' in never (cc)
 
 load_one :

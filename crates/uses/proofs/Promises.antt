@@ -1,5 +1,6 @@
 -- From a use of a session to what is promised of it.
-use Rattle.std.proofs.Common.{◌≡◌, ℕ, suc, ◌≤◌, List, All, length, get_or, Ok, Err, refl, ap, subst, mul-le-mul_right, arith}
+use Rattle.std.proofs.Common.{◌≡◌, ℕ, suc, ◌≤◌, List, All, length, get_or, Ok, Err, refl, ap}
+use Rattle.std.proofs.Common.{subst, mul-le-mul_right, arith}
 use Rattle.std.proofs.lemmas.List.Elements.{All-nil, All-cons}
 use Rattle.store.specs.Meaning.{Shown, free}
 use Rattle.description.specs.Checks.{Checked, right}

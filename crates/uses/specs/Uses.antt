@@ -11,7 +11,8 @@ use Rattle.making.specs.Ends.{located}
 use Rattle.runs.specs.Models.{Model, system}
 use Rattle.runs.specs.Search.{unsafe, safe, open_yet, verdict, Trace}
 use Rattle.runs.specs.Search as search
-use Rattle.uses.specs.Calls.{State, empty, loaded, told, Call, load, advance, ask, trace, inside, Stand, stand, Event, event, written}
+use Rattle.uses.specs.Calls.{State, empty, loaded, told, Call, load, advance, ask, trace, inside}
+use Rattle.uses.specs.Calls.{Stand, stand, Event, event, written}
 
 -- the refusal of a call of the list for room
 abbrev pub room : Item → Shown → Fault

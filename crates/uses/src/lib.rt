@@ -7,17 +7,19 @@ ghost use Rattle.uses.specs.Possible.{Possible};
 
 pub mod verdict;
 
-// Each event was a step by the rules, a refusal for room was the store's, each trace is a run that breaks the property, and the verdict means what it says.
+/// However a session is used, over whatever store: each call was a step by the rules, an accepted load or advance left
+/// every result of its list held, a refusal for room was the store's own, each trace is a shortest run that breaks the
+/// property, and the verdict means what it says of the one circuit that was loaded.
 pub fn uses_keep_the_promise()
     ensures { Promised }
 {}
 
-// The rules fix each answer, but for refusals for room.
+/// The rules fix each answer, by what the store shows after the call.
 pub fn answers_are_determined()
     ensures { Determined }
 {}
 
-// The rules leave no call without an answer, as far as the store answers.
+/// The rules leave no call without an answer, as far as the store answers.
 pub fn calls_are_answered()
     ensures { Possible }
 {}
