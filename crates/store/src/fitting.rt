@@ -1,5 +1,5 @@
 // Whether a store can be made.
-ghost use Rattle.std.specs.Prelude.{◌≡◌, ◌≤◌, true, length, if◌then◌else◌};
+ghost use Rattle.std.specs.Prelude.{◌≡◌, ◌≤◌, true, [], length, if◌then◌else◌};
 ghost use Rattle.store.specs.Fitting.{fits, fitting};
 
 use super::refusal::Unfit;
@@ -21,7 +21,8 @@ pub fn fit<T>(n: u8, most: u8, records: &[T]) -> Result<(), Unfit>
 // n and the records, where a store can be made of them; else 1 variable and no records, of which one always can.
 pub fn fitted<T>(n: u8, most: u8, records: &mut [T]) -> (u8, &mut [T])
     ensures variables { result.0 ≡ (if fits n most (length records.old) then n else 1) }
-    ensures records { length result.1.now ≡ (if fits n most (length records.old) then length records.old else 0) }
+    ensures records { result.1.now ≡ (if fits n most (length records.old) then records.old else []) }
+    ensures same { fits n most (length records.old) ≡ true → result.1.ghost_name ≡ records.entry.ghost_name }
     ensures fit { 1 ≤ most → fits result.0 most (length result.1.now) ≡ true }
 {
     if fit(n, most, records).is_ok() {

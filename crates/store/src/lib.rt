@@ -4,7 +4,7 @@
 ghost use Rattle.std.specs.Prelude.{◌≡◌};
 ghost use Rattle.store.specs.Meaning.{Shown};
 ghost use Rattle.store.specs.Calls.{Makes, MakesVariable, MakesNot, MakesAnd, MakesOr, MakesCofactor, TellsValue, TellsFigures};
-ghost use Rattle.store.specs.Numbers.{number_of};
+ghost use Rattle.store.specs.Numbers.{number_of, number_of_unfit};
 
 pub mod bits;
 pub mod figures;
@@ -13,7 +13,7 @@ pub mod refusal;
 pub mod task;
 
 use figures::Figures;
-use refusal::Refusal;
+use refusal::{Refusal, Unfit};
 use task::{Op, Task};
 
 // The most variables of a store.
@@ -29,6 +29,15 @@ impl Refusal {
             Refusal::Number => 16,
             Refusal::Variable => 17,
         }
+    }
+}
+
+impl Unfit {
+    /// Its number in the list of refusals.
+    pub fn number(self) -> u8
+        ensures { result ≡ number_of_unfit self }
+    {
+        self as u8
     }
 }
 

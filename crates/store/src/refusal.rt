@@ -9,7 +9,7 @@ pub enum Refusal {
     Variable,
 }
 
-// Why a store or a layer cannot be made as asked; `as u8` gives its number.
+// Why a store or a layer cannot be made as asked, each with its number.
 #[derive(Clone, Copy, PartialEq, Eq, Debug)]
 pub enum Unfit {
     // The list does not hold each variable once.

@@ -38,7 +38,14 @@ impl Task {
 pub fn check_value(a: u16, w: u32, made: usize, variables: u8) -> Result<(), Refusal>
     ensures { result ≡ allowed (nat_lt a (made + 2)) (nat_lt w (2 ^ variables)) }
 {
-    held(a, made).and(within(variables >= 32 || w < 1 << variables))
+    held(a, made).and(within(is_valuation(w, variables)))
+}
+
+// Whether w is a valuation of so many variables.
+fn is_valuation(w: u32, variables: u8) -> bool
+    ensures { result ≡ nat_lt w (2 ^ variables) }
+{
+    variables >= 32 || w < 1 << variables
 }
 
 // Refuses a number that is not held: the constants have the first two, and what was made has the next ones.

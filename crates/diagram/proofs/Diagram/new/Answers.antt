@@ -30,7 +30,7 @@ returns c =
     let size = length c.args.records.now in
     let b = fits_tells n 24 _ (e.fit (omega arith)) in
     record {
-      shows = begun n l _ p.empty p.room ∙ made_of_choice (λ m r. shown m [] r) (suits c.args.n size) c.args.n size e.variables e.records;
+      shows = begun n l _ p.empty p.room ∙ made_of_choice (λ m r. shown m [] r) (suits c.args.n size) c.args.n c.args.records.now e.variables e.records;
       fresh = begun_fresh n l _ p.empty p.room;
       lawful = begun_lawful n l _ p.empty p.room b.0 b.1 b.2;
     }
