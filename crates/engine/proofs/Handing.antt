@@ -20,7 +20,7 @@ use Rattle.engine.proofs.Keepings.{stays_some}
 use Rattle.engine.proofs.Tracings.{at}
 
 -- the depth is the number of advances
-depth_is : (s : System) (j d : ℕ) → search.verdict s j ≡ unsafe d → search.verdict s j ≡ unsafe j
+pub depth_is : (s : System) (j d : ℕ) → search.verdict s j ≡ unsafe d → search.verdict s j ≡ unsafe j
 unfolding verdict_by
 depth_is s j d = go (meets_init s (bad s j)) (stable s (bad s) j)
   where

@@ -12,3 +12,4 @@ mod Meeting
 mod Steps
 mod Advances
 mod Loads
+pub mod Settlings

@@ -7,6 +7,8 @@ mod load;
 pub mod questions;
 pub mod search;
 pub mod session;
+mod settle;
+pub mod settled;
 mod stage;
 pub mod step;
 mod stepping;
