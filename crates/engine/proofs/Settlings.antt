@@ -1,5 +1,5 @@
 -- Advances up to a settled verdict.
-use Rattle.std.proofs.Common.{◌≡◌, ℕ, suc, ◌<◌, ◌≤◌, ◌^◌, List, ◌∷◌, ◌++◌, Option, None, Some, MatchOption, MatchResult, Ok, Err, Result, sym, refl, ap, ◌∙◌, subst, arith, pow_mono}
+use Rattle.std.proofs.Common.{◌≡◌, ℕ, suc, ◌<◌, ◌≤◌, ◌^◌, List, ◌∷◌, ◌++◌, Option, None, Some, MatchOption, MatchResult, Result, sym, refl, ap, ◌∙◌, subst, arith, pow_mono}
 use Rattle.store.specs.Meaning.{Shown}
 use Rattle.making.specs.declared.fault.Fault.{Fault}
 use Rattle.runs.specs.Models.{Model, Valid, system}
@@ -7,7 +7,7 @@ use Rattle.runs.specs.Search.{unsafe, verdict}
 use Rattle.runs.proofs.Verdicts.{verdicts}
 use Rattle.uses.specs.declared.verdict.Verdict.{Verdict}
 use Rattle.uses.specs.declared.verdict.Verdict.TheVariants as answer
-use Rattle.uses.specs.Calls.{State, empty, loaded, tell, Call, advance, Stand, stand, Event, event}
+use Rattle.uses.specs.Calls.{State, empty, loaded, Call, advance, Stand, stand, Event, event}
 use Rattle.uses.specs.Uses.{Step, advance_empty, advance_settled, advance_full, advances, Use, went_on}
 use Rattle.uses.proofs.Told.{never, tell_unsafe}
 use Rattle.uses.proofs.Uses.{closed, come}
@@ -15,7 +15,7 @@ use Rattle.arrayvec.specs.ArrayVec.{array_vec_len}
 use Rattle.engine.specs.declared.search.Search.{Search}
 use Rattle.engine.specs.declared.settled.Settled.{Settled}
 use Rattle.engine.specs.Keeping.{World, Sets, Keeps, Next}
-use Rattle.engine.specs.Settled.{Advances, more, Undecided, Decided, Stuck, advances_of, verdict_of}
+use Rattle.engine.specs.Settled.{Advances, more, Undecided, Decided, Stuck}
 use Rattle.engine.specs.Settling.{SettledOn}
 use Rattle.engine.proofs.Handing.{depth_is}
 

@@ -1,10 +1,10 @@
-use Rattle.std.proofs.Common.{◌≡◌, ℕ, suc, [], List, Ok, Err, MatchResult, sym, ap, subst, add-one, arith}
+use Rattle.std.proofs.Common.{suc, [], List, MatchResult, sym, subst, add-one, arith}
 use Rattle.std.proofs.lemmas.Result.{err_from_is_err_and}
 use Rattle.store.specs.Meaning.{Shown}
 use Rattle.uses.specs.Calls.{State, stand, Event}
 use Rattle.uses.specs.Uses.{Use}
 use Rattle.engine.specs.Keeping.{world, Keeps}
-use Rattle.engine.specs.Settled.{none, Undecided, Decided, Stuck}
+use Rattle.engine.specs.Settled.{none, Decided, Stuck}
 use Rattle.engine.proofs.Settlings.{Going, goes_on, decided, unsettled, too_many}
 use Rattle.engine.proofs.session.Session.settle.Goals as goal
 use Rattle.engine.proofs.session.Session.settle.Goals.{After-advance}

@@ -1,4 +1,4 @@
-use Rattle.std.proofs.Common.{◌≡◌, List}
+use Rattle.std.proofs.Common.{List}
 use Rattle.store.specs.Meaning.{Shown}
 use Rattle.uses.specs.Calls.{State, stand, Event}
 use Rattle.uses.specs.Uses.{Use}
