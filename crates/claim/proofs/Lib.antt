@@ -1,4 +1,5 @@
 mod Lexing
+mod Spellings
 mod Runs
 mod Prefixes
 mod Places

@@ -6,8 +6,10 @@ use Rattle.claim.specs.declared.fault.Fault.TheVariants.{Name, Deep}
 use Rattle.claim.specs.Tokens.{tokens}
 use Rattle.claim.specs.Grammar.{Tree, Says}
 use Rattle.claim.specs.Faults.{Fails, Read, Refused}
+use Rattle.claim.specs.Spelling.{Spelling}
 
 pub record Exact (bs : List ℕ) (z : Sizes) : Type 0 where
+  pub spelling : Spelling bs
   -- within length, names and depth a text is read exactly when the grammar derives it
   pub reads : (t : Tree) → length bs ≤ 512 → ((p : ℕ) → Fails z (tokens 0 0 bs) (Name p) → ⊥) → ((p : ℕ) → Fails z (tokens 0 0 bs) (Deep p) → ⊥) → Says (tokens 0 0 bs) t → Read bs z t
   pub one_tree : (t u : Tree) → Read bs z t → Read bs z u → t ≡ u

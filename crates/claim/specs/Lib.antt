@@ -1,4 +1,5 @@
 pub mod Tokens
+pub mod Spelling
 pub mod Grammar
 pub mod Faults
 pub mod Exact

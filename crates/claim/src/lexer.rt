@@ -1,7 +1,7 @@
 // Cuts a claim's text into tokens.
-ghost use Rattle.std.specs.Prelude.{◌≡◌, ℕ, ◌≤◌, Bool, length, ◌≢◌};
+ghost use Rattle.std.specs.Prelude.{◌≡◌, ℕ, ◌≤◌, ◌==◌, Bool, length, ◌≢◌};
 ghost use Rattle.std.specs.List.{prefix_len};
-ghost use Rattle.claim.specs.Tokens.{class, digits, name_of};
+ghost use Rattle.claim.specs.Tokens.{class, digit, name_of};
 ghost use Rattle.claim.specs.Seen.{kind_of, class_of, Lexed};
 
 use crate::code::*;
@@ -52,6 +52,18 @@ fn class_of<'a>(byte: u8) -> Class<'a>
     }
 }
 
+fn is_space(byte: u8) -> bool
+    ensures { result ≡ (byte == 32) }
+{
+    matches!(char::from(byte), ' ')
+}
+
+fn is_digit(byte: u8) -> bool
+    ensures { result ≡ digit byte }
+{
+    matches!(char::from(byte), '0'..='9')
+}
+
 // How many bytes at the front of the text pass a test.
 fn leading<F: Fn(u8) -> bool>(text: &[u8], test: F) -> usize
     requires { F.IsAlwaysCallable test }
@@ -66,7 +78,8 @@ fn name(sort: Sort, digits: &[u8]) -> Token<'_>
     ensures { kind_of result ≡ name_of sort digits.now }
 {
     match digits {
-        [] | [b'0', _, ..] => Token::Wrong,
+        [] => Token::Wrong,
+        [first, _, ..] if matches!(char::from(*first), '0') => Token::Wrong,
         _ => Token::Name(sort, digits),
     }
 }
@@ -76,7 +89,7 @@ pub(crate) fn next_token(text: &[u8], at: usize) -> Lexeme<'_>
     requires { at ≤ length text.now }
     ensures { Lexed text.now at result }
 {
-    let place = at + leading(&text[at..], |byte| byte == b' ');
+    let place = at + leading(&text[at..], is_space);
     let Some(byte) = text.get(place) else {
         return Lexeme {
             token: Token::End,
@@ -91,7 +104,7 @@ pub(crate) fn next_token(text: &[u8], at: usize) -> Lexeme<'_>
             end: place + 1,
         },
         Class::Letter(sort) => {
-            let end = place + 1 + leading(&text[place + 1..], |byte| byte.is_ascii_digit());
+            let end = place + 1 + leading(&text[place + 1..], is_digit);
             Lexeme {
                 token: name(sort, &text[place + 1..end]),
                 place,
