@@ -1,5 +1,6 @@
 mod Lexing
 mod Spellings
+mod Decimals
 mod Runs
 mod Prefixes
 mod Places

@@ -4,6 +4,7 @@
 ghost use Rattle.std.specs.Prelude.{MatchResult};
 ghost use Rattle.claim.specs.Faults.{Refused};
 ghost use Rattle.claim.specs.Exact.{Exact};
+ghost use Rattle.claim.specs.Decimals.{Decimals};
 ghost use Rattle.claim.specs.Examples.{Examples};
 ghost use Rattle.claim.specs.Result.{Reads};
 
@@ -29,6 +30,7 @@ pub const LONGEST: usize = 512;
 pub fn read(text: &[u8], sizes: Sizes) -> Result<Codes, Fault>
     ensures answer { MatchResult result (λ c. Reads text.now sizes c) (λ f. Refused text.now sizes f) }
     ensures exact { Exact text.now sizes }
+    ensures decimals { Decimals }
 {
     if text.len() > LONGEST {
         return Err(Fault::Claim(LONGEST));
