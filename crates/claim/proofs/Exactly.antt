@@ -15,6 +15,7 @@ use Rattle.claim.proofs.Prefixes.{push}
 use Rattle.claim.proofs.Outcomes.{fault_place, unfit, Comes, outcome}
 use Rattle.claim.proofs.Trees as trees
 use Rattle.claim.proofs.Spellings as spellings
+use Rattle.claim.proofs.Depths as depths
 
 -- a name is at fault where no opener can be
 named_kind : {z : Sizes} {ts : List Tok} {p : ℕ} {k : Kind} {f : Fault} (q : ℕ) → AtFault z ts p k f → f ≡ Name q → Opens k → ⊥
@@ -70,6 +71,7 @@ module _ (bs : List ℕ) (z : Sizes) where
   pub exact : Exact bs z
   exact = record {
     spelling = spellings.spelling bs;
+    depth = λ ts t d. depths.depth z ts d;
     reads = λ t short n d says. record { short = short; derived = says; sound = sound_by t n d says };
     one_tree = λ t u r s. trees.one_tree r.derived s.derived;
     one_fault = one_fault;

@@ -2,7 +2,9 @@ mod Lexing
 mod Spellings
 mod Decimals
 mod Runs
+mod Each
 mod Prefixes
+mod Depths
 mod Places
 mod Outcomes
 mod Tried

@@ -10,7 +10,7 @@ use Rattle.claim.specs.Faults.{place_of, Viable, Opens, opens_not, opens_paren, 
 use Rattle.claim.specs.Machine.{State, want, have, over, deep, next, step, after, scan}
 use Rattle.claim.proofs.Places.{Rising, rising, same_place, sooner}
 use Rattle.claim.proofs.Runs.{start, run, run_append, scan_run, known, few_open, Passed, passed, unknown, too_many, Why, stuck, flawed, why, halted}
-use Rattle.claim.proofs.Prefixes.{stands, viable, not_viable, open_at}
+use Rattle.claim.proofs.Prefixes.{stands, viable, not_viable, open_after}
 
 pub fault_place : {z : Sizes} {ts : List Tok} {p : ℕ} {k : Kind} {f : Fault} → AtFault z ts p k f → place_of f ≡ p
 fault_place (no_claim v n) = refl
@@ -21,14 +21,6 @@ pub unfit : {z : Sizes} {ts : List Tok} {p : ℕ} {k : Kind} {f : Fault} (q : �
 unfit q (no_claim v n) e = n
 unfit q (no_such h) e = cc
 unfit q (too_deep n o h l) e = cc
-
--- an opener leads to a state with one more open
-open_after : {k : Kind} (ts : List Tok) (p : ℕ) (s u : State) → Opens k → run (Some start) ts ≡ Some s → next s k ≡ Some u → Open (ts ++ tok p k ∷ []) (deep s + 1)
-open_after ts p (want n r) u opens_not e h = subst (Open (ts ++ tok p bang ∷ [])) (omega arith) (open_at (ts ++ tok p bang ∷ []) (n + 1) r (run_append (Some start) ts (tok p bang ∷ []) ∙ ap (λ o. run o (tok p bang ∷ [])) e))
-open_after ts p (want n r) u opens_paren e h = subst (Open (ts ++ tok p lparen ∷ [])) (omega arith) (open_at (ts ++ tok p lparen ∷ []) 0 (n ∷ r) (run_append (Some start) ts (tok p lparen ∷ []) ∙ ap (λ o. run o (tok p lparen ∷ [])) e))
-open_after ts p (have r) u opens_not e h = cc
-open_after ts p (have r) u opens_paren e h = cc
-open_after ts p over u o e h = cc
 
 module _ (z : Sizes) where
   moved : (ts : List Tok) (s : State) (x : Tok) → scan z (Ok start) ts ≡ Ok s → run (Some start) (ts ++ x ∷ []) ≡ next s x.kind

@@ -173,3 +173,11 @@ at_most (ended {ts = ts} {us = us} {n = n} h d) = subst (AtMost n) (sym (run_app
 -- a state that still reads says how many are open
 pub open_at : (ts : List Tok) (n : ℕ) (r : List ℕ) → run (Some start) ts ≡ Some (want n r) → Open ts (n + depths r)
 open_at ts n r e = ((stands ts (want n r) e).0, λ m h. subst (AtMost m) e (at_most h))
+
+-- an opener leads to a state with one more open
+pub open_after : {k : Kind} (ts : List Tok) (p : ℕ) (s u : State) → Opens k → run (Some start) ts ≡ Some s → next s k ≡ Some u → Open (ts ++ tok p k ∷ []) (deep s + 1)
+open_after ts p (want n r) u opens_not e h = subst (Open (ts ++ tok p bang ∷ [])) (omega arith) (open_at (ts ++ tok p bang ∷ []) (n + 1) r (run_append (Some start) ts (tok p bang ∷ []) ∙ ap (λ o. run o (tok p bang ∷ [])) e))
+open_after ts p (want n r) u opens_paren e h = subst (Open (ts ++ tok p lparen ∷ [])) (omega arith) (open_at (ts ++ tok p lparen ∷ []) 0 (n ∷ r) (run_append (Some start) ts (tok p lparen ∷ []) ∙ ap (λ o. run o (tok p lparen ∷ [])) e))
+open_after ts p (have r) u opens_not e h = cc
+open_after ts p (have r) u opens_paren e h = cc
+open_after ts p over u o e h = cc

@@ -1,15 +1,18 @@
 -- Each text is read in one way or refused for one fault, and never both.
-use Rattle.std.specs.Prelude.{◌≡◌, ℕ, ◌≤◌, ◌⊎◌, List, length}
+use Rattle.std.specs.Prelude.{◌≡◌, ℕ, ◌≤◌, ◌⊎◌, ◌↔◌, List, length}
 use Rattle.circuit.specs.declared.sizes.Sizes.{Sizes}
 use Rattle.claim.specs.declared.fault.Fault.{Fault}
 use Rattle.claim.specs.declared.fault.Fault.TheVariants.{Name, Deep}
-use Rattle.claim.specs.Tokens.{tokens}
+use Rattle.claim.specs.Tokens.{Tok, tokens}
 use Rattle.claim.specs.Grammar.{Tree, Says}
 use Rattle.claim.specs.Faults.{Fails, Read, Refused}
 use Rattle.claim.specs.Spelling.{Spelling}
+use Rattle.claim.specs.Nesting.{deepest}
 
 pub record Exact (bs : List ℕ) (z : Sizes) : Type 0 where
   pub spelling : Spelling bs
+  -- a text that the grammar derives is too deep nowhere exactly if at most 16 are open at once
+  pub depth : (ts : List Tok) (t : Tree) (d : Says ts t) → (deepest d ≤ 16) ↔ ((p : ℕ) → Fails z ts (Deep p) → ⊥)
   -- within length, names and depth a text is read exactly when the grammar derives it
   pub reads : (t : Tree) → length bs ≤ 512 → ((p : ℕ) → Fails z (tokens 0 0 bs) (Name p) → ⊥) → ((p : ℕ) → Fails z (tokens 0 0 bs) (Deep p) → ⊥) → Says (tokens 0 0 bs) t → Read bs z t
   pub one_tree : (t u : Tree) → Read bs z t → Read bs z u → t ≡ u

@@ -2,6 +2,7 @@ pub mod Tokens
 pub mod Spelling
 pub mod Grammar
 pub mod Decimals
+pub mod Nesting
 pub mod Faults
 pub mod Exact
 pub mod Examples
