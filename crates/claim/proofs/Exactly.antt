@@ -12,7 +12,8 @@ use Rattle.claim.specs.Machine.{State, scan}
 use Rattle.claim.proofs.Places.{Rising, rising, same_place}
 use Rattle.claim.proofs.Runs.{start}
 use Rattle.claim.proofs.Prefixes.{push}
-use Rattle.claim.proofs.Outcomes.{fault_place, unfit, Comes, outcome}
+use Rattle.claim.proofs.Outcomes.{fault_place, Comes, outcome}
+use Rattle.claim.proofs.Readings.{read_by, read_says, read_sound}
 use Rattle.claim.proofs.Trees as trees
 use Rattle.claim.proofs.Spellings as spellings
 use Rattle.claim.proofs.Depths as depths
@@ -49,14 +50,9 @@ module _ {z : Sizes} {xs : List Tok} (q : ℕ) (rise : Rising q xs) where
   one_first (Deep m) (Deep n) h k = ap Deep (places (Deep m) (Deep n) h k)
 
 module _ (bs : List ℕ) (z : Sizes) where
-  sound_by : (t : Tree) → ((p : ℕ) → Fails z (tokens 0 0 bs) (Name p) → ⊥) → ((p : ℕ) → Fails z (tokens 0 0 bs) (Deep p) → ⊥) → Says (tokens 0 0 bs) t → (f : Fault) → Fails z (tokens 0 0 bs) f → ⊥
-  sound_by t n d says (Claim q) h = unfit q h.why refl (h.after, t, subst (λ l. Says l t) (h.is ∙ sym (push h.before (tok h.place h.kind) h.after)) says)
-  sound_by t n d says (Name q) h = n q h
-  sound_by t n d says (Deep q) h = d q h
-
   not_both : (t : Tree) (f : Fault) → Read bs z t → Refused bs z f → ⊥
   not_both t f r (too_long h) = omega (arith, r.short)
-  not_both t f r (at_fault short first) = r.sound f first.fails
+  not_both t f r (at_fault short first) = read_sound z bs t r f first.fails
 
   one_fault : (f g : Fault) → Refused bs z f → Refused bs z g → f ≡ g
   one_fault f g (too_long h) (too_long k) = refl
@@ -72,8 +68,8 @@ module _ (bs : List ℕ) (z : Sizes) where
   exact = record {
     spelling = spellings.spelling bs;
     depth = λ ts t d. depths.depth z ts d;
-    reads = λ t short n d says. record { short = short; derived = says; sound = sound_by t n d says };
-    one_tree = λ t u r s. trees.one_tree r.derived s.derived;
+    reads = λ t. ((λ r. (r.short, read_says z bs t r, read_sound z bs t r)), λ h. read_by z bs t h.0 h.1 h.2);
+    one_tree = λ t u r s. trees.one_tree (read_says z bs t r) (read_says z bs u s);
     one_fault = one_fault;
     not_both = not_both;
     always = ⊎_elim (λ long. inr (Claim 512, too_long long)) (λ short. either _ (outcome z bs short (scan z (Ok start) (tokens 0 0 bs)) refl)) (cases_lt 512 (length bs));

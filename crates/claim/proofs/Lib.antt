@@ -5,8 +5,10 @@ mod Runs
 mod Each
 mod Prefixes
 mod Depths
+mod Readings
+pub mod Lengths
 mod Places
-mod Outcomes
+pub mod Outcomes
 mod Tried
 mod Trees
 pub mod Exactly

@@ -5,22 +5,18 @@ use Rattle.circuit.specs.declared.sizes.Sizes.{Sizes}
 use Rattle.claim.specs.declared.fault.Fault.{Fault}
 use Rattle.claim.specs.declared.fault.Fault.TheVariants.{Claim}
 use Rattle.claim.specs.Tokens.{Kind, bang, lparen, end, Tok, tok, Class, space, mark, letter, class, digits, begun, more, tokens}
-use Rattle.claim.specs.Grammar.{Tree}
+use Rattle.claim.specs.Grammar.{Tree, Says}
 use Rattle.claim.specs.Faults.{place_of, Viable, Opens, opens_not, opens_paren, Open, AtFault, no_claim, no_such, too_deep, Fails, First, Read, Refused, at_fault}
 use Rattle.claim.specs.Machine.{State, want, have, over, deep, next, step, after, scan}
 use Rattle.claim.proofs.Places.{Rising, rising, same_place, sooner}
 use Rattle.claim.proofs.Runs.{start, run, run_append, scan_run, known, few_open, Passed, passed, unknown, too_many, Why, stuck, flawed, why, halted}
+use Rattle.claim.proofs.Readings.{unfit, read_by}
 use Rattle.claim.proofs.Prefixes.{stands, viable, not_viable, open_after}
 
 pub fault_place : {z : Sizes} {ts : List Tok} {p : ℕ} {k : Kind} {f : Fault} → AtFault z ts p k f → place_of f ≡ p
 fault_place (no_claim v n) = refl
 fault_place (no_such h) = refl
 fault_place (too_deep n o h l) = refl
-
-pub unfit : {z : Sizes} {ts : List Tok} {p : ℕ} {k : Kind} {f : Fault} (q : ℕ) → AtFault z ts p k f → f ≡ Claim q → Viable (ts ++ tok p k ∷ []) → ⊥
-unfit q (no_claim v n) e = n
-unfit q (no_such h) e = cc
-unfit q (too_deep n o h l) e = cc
 
 module _ (z : Sizes) where
   moved : (ts : List Tok) (s : State) (x : Tok) → scan z (Ok start) ts ≡ Ok s → run (Some start) (ts ++ x ∷ []) ≡ next s x.kind
@@ -93,8 +89,12 @@ module _ (z : Sizes) where
   outcome bs short (Ok u) e =
       let o = scan_over 0 0 bs (Ok start) u e in
       let t = stands (tokens 0 0 bs) over (scan_run z (Ok start) (tokens 0 0 bs) over (e ∙ ap Ok o)) in
-      (t.0, record { short = short; derived = t.1; sound = sound (tokens 0 0 bs) u e })
+      (t.0, read_by z bs t.0 short t.1 (sound (tokens 0 0 bs) u e))
   outcome bs short (Err f) e =
       ⊎_elim (λ g. cc)
       (λ h. at_fault short (first h.ts h.from h.before (tokens 0 0 bs) h.us h.x f 0 (rising 0 0 bs) h.is h.stops))
       (halted z (Ok start) (tokens 0 0 bs) f e)
+
+  -- a text that the machine goes through is read as what the grammar derives
+  pub read_run : (bs : List ℕ) (t : Tree) → length bs ≤ 512 → Says (tokens 0 0 bs) t → scan z (Ok start) (tokens 0 0 bs) ≡ Ok over → Read bs z t
+  read_run bs t short d e = read_by z bs t short d (sound (tokens 0 0 bs) over e)

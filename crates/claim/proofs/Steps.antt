@@ -35,17 +35,6 @@ reach_trans {a} {b} {c} {ts} {us} {cs} {ds} r s = record {
   wrote = s.wrote ∙ ap (λ l. l ++ ds) r.wrote ∙ append_assoc a.codes.items cs ds;
 }
 
--- no more codes than tokens
-pub post_short : {l : Level} {ts : List Tok} {t : Tree} → Derives l ts t → length (post t) ≤ length ts
-post_short (one_term d) = post_short d
-post_short (more_terms d e) = simp length-append (omega (arith, post_short d, post_short e))
-post_short (one_factor d) = post_short d
-post_short (more_factors d e) = simp length-append (omega (arith, post_short d, post_short e))
-post_short (a_not d) = simp length-append (omega (arith, post_short d))
-post_short (in_parens q d) = simp length-append (omega (arith, post_short d))
-post_short a_constant = omega arith
-post_short a_name = omega arith
-
 -- the bytes left fall with each token
 pub fewer : {a b : Reader} {ts : List Tok} {cs : List Code} → Reach a b ts cs → 0 < length ts → 3 * (length b.text.now - b.ahead.place) + 3 ≤ 3 * (length a.text.now - a.ahead.place)
 fewer {b = b} r some = omega (arith, b.placed.within, ap length r.text, r.far)

@@ -22,45 +22,9 @@ use Rattle.claim.specs.Result.{used, Reads}
 use Rattle.claim.proofs.Places.{rising}
 use Rattle.claim.proofs.Runs.{scan_append}
 use Rattle.claim.proofs.Outcomes.{sound, first}
+use Rattle.claim.proofs.Readings.{read_by}
+use Rattle.claim.proofs.Lengths.{read_length, read_operators}
 use Rattle.claim.proofs.Steps.{refuses_have, stuck_step}
-
-few_operators : (cs : List Code) → operators cs ≤ length cs
-few_operators [] = omega arith
-few_operators (c ∷ cs) = omega (arith, few_operators cs, light c.act)
-  where
-    light : (a : Act) → weight a ≤ 1
-    light (Constant b) = omega arith
-    light (Name s n) = omega arith
-    light Not = omega arith
-    light And = omega arith
-    light Or = omega arith
-
--- what the names of a text name is there
-abbrev Names : Sizes → List Tok → Type 0
-Names z ts = (us : List Tok) (p : ℕ) (s : Sort) (ds : List ℕ) (vs : List Tok) → ts ≡ us ++ tok p (name s ds) ∷ vs → value ds < limit z s
-
-module _ {z : Sizes} (ts us : List Tok) (h : Names z (ts ++ us)) where
-  names_left : Names z ts
-  names_left a p s ds v e = h a p s ds (v ++ us) (ap (λ l. l ++ us) e ∙ append_assoc a (tok p (name s ds) ∷ v) us)
-
-  names_right : Names z us
-  names_right a p s ds v e = h (ts ++ a) p s ds v (ap (λ l. ts ++ l) e ∙ sym (append_assoc ts a (tok p (name s ds) ∷ v)))
-
-known_tree : {z : Sizes} {l : Level} {ts : List Tok} {t : Tree} → Derives l ts t → Names z ts → Known z t
-known_tree (one_term d) h = known_tree d h
-known_tree (more_terms {p = p} {ts = ts} {us = us} d e) h = (known_tree d (names_left ts (tok p bar ∷ us) h), known_tree e (names_right (tok p bar ∷ []) us (names_right ts (tok p bar ∷ us) h)))
-known_tree (one_factor d) h = known_tree d h
-known_tree (more_factors {p = p} {ts = ts} {us = us} d e) h = (known_tree d (names_left ts (tok p amp ∷ us) h), known_tree e (names_right (tok p amp ∷ []) us (names_right ts (tok p amp ∷ us) h)))
-known_tree (a_not {p = p} {ts = ts} d) h = known_tree d (names_right (tok p bang ∷ []) ts h)
-known_tree (in_parens {p = p} q {ts = ts} d) h = known_tree d (names_left ts (tok q rparen ∷ []) (names_right (tok p lparen ∷ []) (ts ++ tok q rparen ∷ []) h))
-known_tree a_constant h = tt
-known_tree (a_name {p = p} {s = s} {ds = ds}) h = h [] p s ds [] refl
-
-known_text : {z : Sizes} {xs : List Tok} {t : Tree} → Says xs t → Names z xs → Known z t
-known_text (a_text {ts = ts} p d) h = known_tree d (names_left ts (tok p end ∷ []) h)
-
-pub known_read : {bs : List ℕ} {z : Sizes} {t : Tree} → Read bs z t → Known z t
-known_read {z = z} r = known_text r.derived (λ us p s ds vs e. ⊎_elim (λ lt. lt) (λ ge. absurd (r.sound (fault.Name p) (record { before = us; place = p; kind = name s ds; after = vs; is = e; why = no_such ge }))) (cases_lt (value ds) (limit z s)))
 
 module _ {bs : List ℕ} {z : Sizes} (a b : Reader) (begun : Begun bs z a) where
   short : length bs ≤ 512
@@ -86,11 +50,7 @@ module _ {bs : List ℕ} {z : Sizes} (a b : Reader) (begun : Begun bs z a) where
         let past : length bs ≤ p = omega (arith, b.placed.last is_end, ap length s.reach.text, ap length begun.text) in
         let after : left bs b.ahead ≡ tok p end ∷ [] = (λ i. tok p (kind_of (is_end i)) ∷ cond (le-ltb p (length bs) past i) (tokens 0 b.ahead.end (drop b.ahead.end bs)) []) in
         let all = passed s.reach ∙ ap (λ l. s.ts ++ l) after in
-        record {
-          short = short;
-          derived = subst (λ l. Says l s.tree) (sym all) (a_text p s.derived);
-          sound = subst (λ y. (f : Fault) → Fails y (tokens 0 0 bs) f → ⊥) begun.sizes (sound a.sizes (tokens 0 0 bs) over (ap (scan a.sizes (Ok (want 0 []))) all ∙ scan_append a.sizes (Ok (want 0 [])) s.ts (tok p end ∷ []) ∙ ap (λ r. scan a.sizes r (tok p end ∷ [])) (s.path 0 [] refl refl)));
-        }
+        read_by z bs s.tree short (subst (λ l. Says l s.tree) (sym all) (a_text p s.derived)) (subst (λ y. (f : Fault) → Fails y (tokens 0 0 bs) f → ⊥) begun.sizes (sound a.sizes (tokens 0 0 bs) over (ap (scan a.sizes (Ok (want 0 []))) all ∙ scan_append a.sizes (Ok (want 0 [])) s.ts (tok p end ∷ []) ∙ ap (λ r. scan a.sizes r (tok p end ∷ [])) (s.path 0 [] refl refl))))
 
     -- the codes of what was read
     pub written : b.codes.items ≡ post s.tree
@@ -99,5 +59,5 @@ module _ {bs : List ℕ} {z : Sizes} (a b : Reader) (begun : Begun bs z a) where
     pub reads : (c : Codes) → used c ≡ b.codes.items → b.ahead.token ≡ End → Reads bs z c
     reads c e is_end =
         let r = read is_end in
-        let few : length (used c) ≤ length bs = omega (arith, ap length e, b.fits, b.placed.within, ap length s.reach.text, ap length begun.text) in
-        record { tree = s.tree; read = r; known = known_read r; codes = e ∙ written; few = few; few_operators = omega (arith, few, few_operators (used c)) }
+        let is : used c ≡ post s.tree = e ∙ written in
+        record { tree = s.tree; read = r; codes = is; few = omega (arith, ap length is, read_length r); few_operators = omega (arith, ap operators is, read_operators r) }

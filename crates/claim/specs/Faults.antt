@@ -6,7 +6,9 @@ use Rattle.claim.specs.declared.fault.Fault.{Fault}
 use Rattle.claim.specs.declared.fault.Fault.TheVariants.{Claim, Name, Deep}
 use Rattle.claim.specs.Tokens.{Kind, bang, amp, bar, lparen, name, Tok, tok, tokens}
 use Rattle.circuit.specs.Netlists.{limit}
-use Rattle.claim.specs.Grammar.{factor, Tree, Derives, Says, value}
+use Rattle.claim.specs.Grammar.{factor, Tree, Derives, Says, value, Known}
+use Rattle.claim.specs.Spelling.{Spelled}
+use Rattle.claim.specs.Nesting.{deepest}
 
 abbrev pub number_of : Fault → ℕ
 number_of (Claim p) = 7
@@ -62,11 +64,15 @@ pub record First (z : Sizes) (xs : List Tok) (f : Fault) : Type 0 where
   pub lowest : (g : Fault) → Fails z xs g → place_of f ≤ place_of g
   pub claim_wins : Fails z xs (Claim (place_of f)) → f ≡ Claim (place_of f)
 
--- the text says t, and nothing in it is at fault
+-- the text is read as t: it has at most 512 bytes, they spell tokens that the grammar derives as t,
+-- there is what each name names, and at most 16 `!` and `(` are open at once
 pub record Read (bs : List ℕ) (z : Sizes) (t : Tree) : Type 0 where
   pub short : length bs ≤ 512
-  pub derived : Says (tokens 0 0 bs) t
-  pub sound : (f : Fault) → Fails z (tokens 0 0 bs) f → ⊥
+  pub spelling : List Tok
+  pub spelled : Spelled bs spelling
+  pub derived : Says spelling t
+  pub known : Known z t
+  pub shallow : deepest derived ≤ 16
 
 pub data Refused (bs : List ℕ) (z : Sizes) : Fault → Type 0 where
   too_long : 512 < length bs → Refused bs z (Claim 512)

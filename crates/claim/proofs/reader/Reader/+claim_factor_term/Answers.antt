@@ -1,6 +1,7 @@
 use Rattle.std.proofs.Common.{◌<◌, [], ◌∷◌, ◌++◌, length, sym, ap, ◌∙◌, arith, length-append}
 use Rattle.claim.specs.Reading.{ahead}
-use Rattle.claim.proofs.Steps.{handed_on, reach_trans, post_short, fewer, room_left, by_token, as_term, as_claim, stop_term, stop_claim, more_and, more_or, stop_and, stop_or, stop_not, read_not, stop_open, closing, deep_not, deep_open, no_factor, read_constant}
+use Rattle.claim.proofs.Lengths.{post_short}
+use Rattle.claim.proofs.Steps.{handed_on, reach_trans, fewer, room_left, by_token, as_term, as_claim, stop_term, stop_claim, more_and, more_or, stop_and, stop_or, stop_not, read_not, stop_open, closing, deep_not, deep_open, no_factor, read_constant}
 use Rattle.claim.proofs.reader.Reader.+claim_factor_term.Goals as goal
 
 pub claim-returns-in_err-term : goal.claim-returns-in_err-term
