@@ -6,7 +6,7 @@ use Rattle.claim.specs.declared.fault.Fault.{Fault}
 use Rattle.claim.specs.declared.fault.Fault.TheVariants.{Deep}
 use Rattle.claim.specs.Tokens.{Kind, amp, bar, rparen, end, Tok, tok}
 use Rattle.claim.specs.Grammar.{Level, Tree, Derives, one_term, more_terms, one_factor, more_factors, a_not, in_parens, a_constant, a_name, Says, a_text}
-use Rattle.claim.specs.Faults.{Opens, opens_not, opens_paren, Open, AtFault, no_claim, no_such, too_deep, Fails}
+use Rattle.claim.specs.Faults.{Opens, opens_not, opens_paren, AtFault, no_claim, no_such, too_deep, Fails}
 use Rattle.claim.specs.Machine.{State, want, have, over, depths, deep, next}
 use Rattle.claim.specs.Reading.{Bare}
 use Rattle.claim.specs.Nesting.{nesting, deepest}

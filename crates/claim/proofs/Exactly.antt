@@ -5,13 +5,12 @@ use Rattle.circuit.specs.declared.sizes.Sizes.{Sizes}
 use Rattle.claim.specs.declared.fault.Fault.{Fault}
 use Rattle.claim.specs.declared.fault.Fault.TheVariants.{Claim, Name, Deep}
 use Rattle.claim.specs.Tokens.{Kind, Tok, tok, tokens}
-use Rattle.claim.specs.Grammar.{Tree, Says}
+use Rattle.claim.specs.Grammar.{Tree}
 use Rattle.claim.specs.Faults.{place_of, Opens, AtFault, no_claim, no_such, too_deep, Fails, First, Read, Refused, too_long, at_fault}
 use Rattle.claim.specs.Exact.{Exact}
 use Rattle.claim.specs.Machine.{State, scan}
 use Rattle.claim.proofs.Places.{Rising, rising, same_place}
 use Rattle.claim.proofs.Runs.{start}
-use Rattle.claim.proofs.Prefixes.{push}
 use Rattle.claim.proofs.Outcomes.{fault_place, Comes, outcome}
 use Rattle.claim.proofs.Readings.{read_by, read_says, read_sound}
 use Rattle.claim.proofs.Trees as trees

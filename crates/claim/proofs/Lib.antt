@@ -14,5 +14,3 @@ mod Trees
 pub mod Exactly
 pub mod Steps
 mod Whole
-pub mod Stacks
-mod Evaluation

@@ -4,9 +4,9 @@ use Rattle.std.proofs.lemmas.Bool.{cases_lt}
 use Rattle.circuit.specs.declared.sizes.Sizes.{Sizes}
 use Rattle.claim.specs.declared.fault.Fault.{Fault}
 use Rattle.claim.specs.declared.fault.Fault.TheVariants.{Claim}
-use Rattle.claim.specs.Tokens.{Kind, bang, lparen, end, Tok, tok, Class, space, mark, letter, class, digits, begun, more, tokens}
+use Rattle.claim.specs.Tokens.{Kind, end, Tok, tok, Class, space, mark, letter, class, digits, begun, more, tokens}
 use Rattle.claim.specs.Grammar.{Tree, Says}
-use Rattle.claim.specs.Faults.{place_of, Viable, Opens, opens_not, opens_paren, Open, AtFault, no_claim, no_such, too_deep, Fails, First, Read, Refused, at_fault}
+use Rattle.claim.specs.Faults.{place_of, Viable, AtFault, no_claim, no_such, too_deep, Fails, First, Read, Refused, at_fault}
 use Rattle.claim.specs.Machine.{State, want, have, over, deep, next, step, after, scan}
 use Rattle.claim.proofs.Places.{Rising, rising, same_place, sooner}
 use Rattle.claim.proofs.Runs.{start, run, run_append, scan_run, known, few_open, Passed, passed, unknown, too_many, Why, stuck, flawed, why, halted}

@@ -13,7 +13,7 @@ use Rattle.claim.specs.declared.reader.Reader.{Reader}
 use Rattle.claim.specs.Tokens.{Kind, bang, amp, bar, lparen, rparen, constant, name, Tok, tok}
 use Rattle.claim.specs.Seen.{kind_of, left}
 use Rattle.circuit.specs.Netlists.{limit}
-use Rattle.claim.specs.Grammar.{Level, claim, term, factor, Tree, const, named, neg, conj, disj, Derives, one_term, more_terms, one_factor, more_factors, a_not, in_parens, a_constant, a_name, value, code, post}
+use Rattle.claim.specs.Grammar.{Level, claim, term, factor, const, named, neg, conj, disj, one_term, more_terms, one_factor, more_factors, a_not, in_parens, a_constant, a_name, value, code, post}
 use Rattle.claim.specs.Machine.{State, want, have, depths, next, flaw, judged, step, scan}
 use Rattle.claim.specs.Reading.{ahead, Reach, Bare, Sofar, Taken, Stopped}
 use Rattle.claim.proofs.Runs.{scan_append}

@@ -1,21 +1,17 @@
 -- From the readers' promises to the text.
-use Rattle.std.proofs.Common.{◌≡◌, ℕ, ◌<◌, ◌≤◌, cond, List, [], ◌∷◌, ◌++◌, length, drop, Ok, sym, refl, ap, ◌∙◌, subst, ⊎_elim, append_assoc, arith}
-use Rattle.std.proofs.lemmas.Bool.{cases_lt, le-ltb}
-use Rattle.claim.specs.declared.code.Act.{Act}
-use Rattle.claim.specs.declared.code.Act.TheVariants.{Constant, Name, Not, And, Or}
+use Rattle.std.proofs.Common.{◌≡◌, ℕ, ◌≤◌, cond, List, [], ◌∷◌, ◌++◌, length, drop, Ok, sym, refl, ap, ◌∙◌, subst, arith}
+use Rattle.std.proofs.lemmas.Bool.{le-ltb}
 use Rattle.claim.specs.declared.code.Code.{Code}
-use Rattle.circuit.specs.declared.sort.Sort.{Sort}
 use Rattle.circuit.specs.declared.sizes.Sizes.{Sizes}
 use Rattle.claim.specs.declared.codes.Codes.{Codes}
 use Rattle.claim.specs.declared.fault.Fault.{Fault}
 use Rattle.claim.specs.declared.fault.Fault.TheVariants as fault
 use Rattle.claim.specs.declared.lexer.Token.TheVariants.{End}
 use Rattle.claim.specs.declared.reader.Reader.{Reader}
-use Rattle.claim.specs.Tokens.{bang, amp, bar, lparen, rparen, name, end, Tok, tok, tokens}
+use Rattle.claim.specs.Tokens.{end, Tok, tok, tokens}
 use Rattle.claim.specs.Seen.{kind_of, left}
-use Rattle.circuit.specs.Netlists.{limit}
-use Rattle.claim.specs.Grammar.{Level, claim, Tree, Derives, one_term, more_terms, one_factor, more_factors, a_not, in_parens, a_constant, a_name, Says, a_text, value, post, weight, operators, Known}
-use Rattle.claim.specs.Faults.{no_such, Fails, Read, Refused, at_fault}
+use Rattle.claim.specs.Grammar.{claim, Says, a_text, post, operators}
+use Rattle.claim.specs.Faults.{Fails, Read, Refused, at_fault}
 use Rattle.claim.specs.Machine.{want, have, over, scan}
 use Rattle.claim.specs.Reading.{ahead, Begun, Reach, Sofar, Taken, Stopped}
 use Rattle.claim.specs.Result.{used, Reads}

@@ -2,7 +2,7 @@
 use Rattle.std.specs.Prelude.{◌≡◌, ℕ, ◌≤◌, ◌⊎◌, ◌↔◌, List, length}
 use Rattle.circuit.specs.declared.sizes.Sizes.{Sizes}
 use Rattle.claim.specs.declared.fault.Fault.{Fault}
-use Rattle.claim.specs.declared.fault.Fault.TheVariants.{Name, Deep}
+use Rattle.claim.specs.declared.fault.Fault.TheVariants.{Deep}
 use Rattle.claim.specs.Tokens.{Tok, tokens}
 use Rattle.claim.specs.Grammar.{Tree, Says}
 use Rattle.claim.specs.Faults.{Fails, Read, Refused}

@@ -10,7 +10,6 @@ ghost use Rattle.claim.specs.Result.{Reads};
 
 pub mod code;
 pub mod codes;
-pub mod eval;
 pub mod fault;
 mod lexer;
 mod reader;

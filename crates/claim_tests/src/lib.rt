@@ -3,9 +3,9 @@
 
 #[cfg(test)]
 mod tests {
+    use arrayvec::ArrayVec;
     use circuit::sizes::Sizes;
     use claim::code::*;
-    use claim::eval::{Valuation, truth};
     use claim::fault::Fault;
     use claim::fault::Fault::{Claim, Deep, Name};
     use claim::*;
@@ -181,6 +181,26 @@ mod tests {
         Ok(())
     }
 
+    // The truth of a claim, given those of s0, v0 and g0; any other name is false. `None` if its codes are no tree's.
+    fn truth(codes: &[Code], register: bool, input: bool, gate: bool) -> Option<bool> {
+        let mut operands = ArrayVec::<bool, LONGEST>::new();
+        for code in codes {
+            let value = match code.act {
+                Act::Constant(value) => value,
+                Act::Name(Sort::Register, 0) => register,
+                Act::Name(Sort::Input, 0) => input,
+                Act::Name(Sort::Gate, 0) => gate,
+                Act::Name(..) => false,
+                Act::Not => !operands.pop()?,
+                Act::And => operands.pop()? & operands.pop()?,
+                Act::Or => operands.pop()? | operands.pop()?,
+            };
+            operands.try_push(value).ok()?;
+        }
+        let answer = operands.pop()?;
+        operands.is_empty().then_some(answer)
+    }
+
     // A text, the truths of s0, v0 and g0, and that of the claim; g1 is missing.
     const TRUTHS: [(&str, bool, bool, bool, bool); 17] = [
         ("0", true, true, true, false),
@@ -208,12 +228,7 @@ mod tests {
             let Ok(codes) = read(text.as_bytes(), SIZES) else {
                 return Err(Fail::new(text));
             };
-            let values = Valuation {
-                registers: &[s],
-                inputs: &[v],
-                gates: &[g],
-            };
-            assert_eq!(rt; truth(&codes, &values), answer, "{}", text);
+            assert_eq!(rt; truth(codes.codes(), s, v, g), Some(answer), "{}", text);
         }
         Ok(())
     }
