@@ -1,7 +1,7 @@
 mod Lexing
 mod Spellings
 mod Decimals
-mod Runs
+pub mod Runs
 mod Each
 mod Prefixes
 mod Depths

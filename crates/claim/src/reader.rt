@@ -48,16 +48,16 @@ pub(crate) struct Depth {
 impl Depth {
     pub(crate) const NONE: Self = Depth { opened: 0 };
 
-    // One more, by the token at `place`.
-    fn deeper(self, place: usize) -> Result<Self, Fault>
-        ensures { MatchResult result (λ d. d.opened ≡ self.opened + 1) (λ f. (f ≡ Fault.Deep place) × (self.opened ≡ DEEPEST)) }
+    // One more, by this token.
+    fn deeper(self, opener: Lexeme<'_>) -> Result<Self, Fault>
+        ensures { MatchResult result (λ d. d.opened ≡ self.opened + 1) (λ f. (f ≡ Fault.Deep opener.entry.place) × (self.opened ≡ DEEPEST)) }
     {
         if self.opened < DEEPEST {
             Ok(Depth {
                 opened: self.opened + 1,
             })
         } else {
-            Err(Fault::Deep(place))
+            Err(Fault::Deep(opener.place))
         }
     }
 }
@@ -164,14 +164,14 @@ impl<'a> Reader<'a> {
         let place = self.ahead.place;
         match self.ahead.token {
             Token::Not => {
-                let inner = depth.deeper(place)?;
+                let inner = depth.deeper(self.ahead)?;
                 self.pass();
                 self.factor(inner)?;
                 self.write(Act::Not, place);
                 Ok(())
             }
             Token::Open => {
-                let inner = depth.deeper(place)?;
+                let inner = depth.deeper(self.ahead)?;
                 self.pass();
                 self.claim(inner)?;
                 self.close()

@@ -7,6 +7,5 @@ pub mod Traces
 pub mod Numbers
 pub mod Composing
 pub mod Steps
-pub mod Texts
 pub mod Models
 pub mod Worked

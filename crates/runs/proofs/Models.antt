@@ -23,7 +23,6 @@ use Rattle.runs.specs.Valuations.{registers_at, inputs_at, literal_fn, line_fn, 
 use Rattle.runs.proofs.Numbers.{number_lt, bit_number, spreads}
 use Rattle.runs.proofs.Steps.{steps_back, sets_same}
 use Rattle.circuit.proofs.Passing.{reading_sound}
-use Rattle.runs.proofs.Texts.{read_known}
 
 -- names that agree where there is what they name
 abbrev Agree : Sizes → (Sort → ℕ → Bool) → (Sort → ℕ → Bool) → Type 0
@@ -175,8 +174,8 @@ descriptions_valid width file h p m d =
     let r = reading_sound width file m.circuit d.circuit in (
       record {
         circuit = r.0;
-        assumption = read_known (sizes m.circuit) h m.assumption d.assumption;
-        property = read_known (sizes m.circuit) p m.property d.property;
+        assumption = d.assumption.known;
+        property = d.property.known;
       },
       r.1,
     )

@@ -14,7 +14,9 @@ use Rattle.runs.specs.Search.{bad, verdict_by, Least}
 use Rattle.runs.specs.Models.{Model}
 use Rattle.runs.specs.Facts.{F, W, D, Worked}
 use Rattle.runs.proofs.Some.{none}
-use Rattle.runs.proofs.Texts.{all_fine, read_short}
+use Rattle.claim.specs.Machine.{over, scan}
+use Rattle.claim.proofs.Runs.{start}
+use Rattle.claim.proofs.Outcomes.{read_run}
 
 -- a smallest number that is worked out
 least_by : (n : ℕ) (f : ℕ → Bool) (k : ℕ) → k < n → f k ≡ true → some f k ≡ false → Least n f k
@@ -55,24 +57,24 @@ unfolding touching
 d_file = refl
 
 reads_true : (z : Sizes) → Read (codes "1") z true_claim
-reads_true z = read_short z (codes "1") true_claim (lit≤ tt) (lit≤ tt) (a_text 1 (one_term (one_factor a_constant))) refl
+reads_true z = read_run z (codes "1") true_claim (lit≤ tt) (a_text 1 (one_term (one_factor a_constant))) refl
 
 module _ (z : Sizes) where
-  reads_s0 : all_fine z (tokens 0 0 (codes "s0")) ≡ true → Read (codes "s0") z (named 0 Register 0)
-  reads_s0 h = read_short z (codes "s0") (named 0 Register 0) (lit≤ tt) (lit≤ tt) (a_text 2 (one_term (one_factor a_name))) h
+  reads_s0 : scan z (Ok start) (tokens 0 0 (codes "s0")) ≡ Ok over → Read (codes "s0") z (named 0 Register 0)
+  reads_s0 h = read_run z (codes "s0") (named 0 Register 0) (lit≤ tt) (a_text 2 (one_term (one_factor a_name))) h
 
-  reads_not_s0 : all_fine z (tokens 0 0 (codes "!s0")) ≡ true → Read (codes "!s0") z (not_name Register 0)
-  reads_not_s0 h = read_short z (codes "!s0") (not_name Register 0) (lit≤ tt) (lit≤ tt) (a_text 3 (one_term (one_factor (a_not a_name)))) h
+  reads_not_s0 : scan z (Ok start) (tokens 0 0 (codes "!s0")) ≡ Ok over → Read (codes "!s0") z (not_name Register 0)
+  reads_not_s0 h = read_run z (codes "!s0") (not_name Register 0) (lit≤ tt) (a_text 3 (one_term (one_factor (a_not a_name)))) h
 
-  reads_not_s1 : all_fine z (tokens 0 0 (codes "!s1")) ≡ true → Read (codes "!s1") z (not_name Register 1)
-  reads_not_s1 h = read_short z (codes "!s1") (not_name Register 1) (lit≤ tt) (lit≤ tt) (a_text 3 (one_term (one_factor (a_not a_name)))) h
+  reads_not_s1 : scan z (Ok start) (tokens 0 0 (codes "!s1")) ≡ Ok over → Read (codes "!s1") z (not_name Register 1)
+  reads_not_s1 h = read_run z (codes "!s1") (not_name Register 1) (lit≤ tt) (a_text 3 (one_term (one_factor (a_not a_name)))) h
 
-  reads_not_v0 : all_fine z (tokens 0 0 (codes "!v0")) ≡ true → Read (codes "!v0") z (not_name Input 0)
-  reads_not_v0 h = read_short z (codes "!v0") (not_name Input 0) (lit≤ tt) (lit≤ tt) (a_text 3 (one_term (one_factor (a_not a_name)))) h
+  reads_not_v0 : scan z (Ok start) (tokens 0 0 (codes "!v0")) ≡ Ok over → Read (codes "!v0") z (not_name Input 0)
+  reads_not_v0 h = read_run z (codes "!v0") (not_name Input 0) (lit≤ tt) (a_text 3 (one_term (one_factor (a_not a_name)))) h
 
-  reads_not_both : all_fine z (tokens 0 0 (codes "!s0 | !s1")) ≡ true → Read (codes "!s0 | !s1") z not_both
+  reads_not_both : scan z (Ok start) (tokens 0 0 (codes "!s0 | !s1")) ≡ Ok over → Read (codes "!s0 | !s1") z not_both
   reads_not_both h =
-      read_short z (codes "!s0 | !s1") not_both (lit≤ tt) (lit≤ tt)
+      read_run z (codes "!s0 | !s1") not_both (lit≤ tt)
       (a_text 9 (more_terms (one_term (one_factor (a_not a_name))) (one_factor (a_not a_name)))) h
 
 pub worked : Worked

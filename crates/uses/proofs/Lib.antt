@@ -1,5 +1,4 @@
 pub mod Told
-mod Texts
 pub mod Written
 pub mod Uses
 mod Unchanged

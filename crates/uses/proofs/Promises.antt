@@ -23,7 +23,7 @@ use Rattle.uses.specs.Fair.{load_bound, advance_bound, AllMade, ShortOf, Fair}
 use Rattle.uses.specs.Says.{Meant, Says}
 use Rattle.uses.specs.Promise.{Promised}
 use Rattle.uses.proofs.Told.{tell_safe, tell_open, tell_unsafe}
-use Rattle.uses.proofs.Texts.{read_operators}
+use Rattle.claim.proofs.Lengths.{read_operators}
 use Rattle.uses.proofs.Written.{written_at, breaking_like}
 use Rattle.uses.proofs.Unchanged.{same_but, same_arrays}
 use Rattle.uses.proofs.Uses.{closed, step_grown, Come, come}
