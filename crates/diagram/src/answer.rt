@@ -6,16 +6,18 @@ use records::Full;
 use store::refusal::Refusal;
 
 impl Diagram<'_> {
-    // What was made, or, where the records ran out, the refusal: only the first `used` nodes stay, and the memo, which may
-    // have numbers of the others, is emptied.
+    // What was made, or, where the records ran out, the refusal: only the first `used` nodes stay. Where there are others, the memo may
+    // have their numbers, so it is emptied; a refusal before any was added costs no walk over memo and chains.
     pub(super) fn finish(&mut self, used: usize, made: Result<u16, Full>) -> Result<u16, Refusal>
         ensures { Finishes self.old self.new used made result }
     {
         if let Ok(number) = made {
             return Ok(number);
         }
-        self.nodes.truncate(used);
-        self.memo.clear();
+        if self.nodes.len() > used {
+            self.nodes.truncate(used);
+            self.memo.clear();
+        }
         Err(Refusal::Room(self.capacity() - self.used()))
     }
 }

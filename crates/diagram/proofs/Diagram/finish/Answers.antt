@@ -21,4 +21,4 @@ invariant_of-self c =
     }
 
 pub overflow_sub-result : goal.overflow_sub-result
-overflow_sub-result c = omega (arith, entries_fit c.truncate.new.self, c.used.ensures, c.capacity.ensures)
+overflow_sub-result c = omega (arith, entries_fit c.if-len-used.self.nodes, c.used.ensures, c.capacity.ensures)
