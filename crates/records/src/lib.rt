@@ -13,6 +13,8 @@ ghost use Rattle.records.specs.Placing.{Among, Finds, Places};
 pub mod entry;
 mod index;
 mod list;
+#[cfg(test)]
+mod tests;
 
 use entry::Entry;
 use index::{BUCKETS, Index};
