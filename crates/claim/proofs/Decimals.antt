@@ -6,6 +6,7 @@ use Rattle.std.proofs.lemmas.Bool.{cases_eq, cases_lt}
 use Rattle.std.proofs.lemmas.Fmt.{decimal_by_steps_wide}
 use Rattle.claim.specs.Grammar.{value, value_from}
 use Rattle.claim.specs.Spelling.{Digit, Proper, zero_alone, no_leading_zero}
+use Rattle.claim.proofs.Each.{all_append}
 use Rattle.claim.specs.Decimals.{Written, one_digit, more_digits, Decimals}
 
 value_append : (n : ℕ) (ds es : List ℕ) → value_from n (ds ++ es) ≡ value_from (value_from n ds) es
@@ -14,7 +15,8 @@ value_append n (d ∷ ds) es = value_append (n * 10 + (d - 48)) ds es
 
 value_of : {n : ℕ} {ds : List ℕ} → Written n ds → value ds ≡ n
 value_of (one_digit {d = d} h) = omega arith
-value_of (more_digits {n = n} {d = d} {ds = ds} some w h) = value_append 0 ds ((48 + d) ∷ []) ∙ omega (arith, value_of w)
+value_of (more_digits {n = n} {d = d} {ds = ds} some w h) =
+    value_append 0 ds ((48 + d) ∷ []) ∙ omega (arith, value_of w)
 
 -- the parts of ten times a number and a digit
 same_digit : (n m c d : ℕ) → c < 10 → d < 10 → n * 10 + c ≡ m * 10 + d → (n ≡ m) × (c ≡ d)
@@ -37,20 +39,23 @@ by_parts n ds big w =
 
 write : (k n : ℕ) → n ≤ k → (ds : List ℕ) × Written n ds
 write zero n h = (_, one_digit (omega arith))
-write (suc k) n h = ⊎_elim (λ small. (_, one_digit small)) (λ big. by big (write k (n / 10) (omega arith))) (cases_lt n 10)
+write (suc k) n h =
+    ⊎_elim (λ small. (_, one_digit small)) (λ big. by big (write k (n / 10) (omega arith))) (cases_lt n 10)
   where
     by : 10 ≤ n → (ds : List ℕ) × Written (n / 10) ds → (ds : List ℕ) × Written n ds
     by big w = (_, by_parts n w.0 big w.1)
 
 -- more digits after a number
-goes_on : (n : ℕ) (es ds : List ℕ) → 0 < n → Written n es → AllByRecursion Digit ds → Written (value_from n ds) (es ++ ds)
+goes_on : (n : ℕ) (es ds : List ℕ) → 0 < n → Written n es → AllByRecursion Digit ds
+    → Written (value_from n ds) (es ++ ds)
 goes_on n es [] some w a = subst (Written n) (sym (append-nil es)) w
 goes_on n es (d ∷ ds) some w a =
     let low : d - 48 < 10 = omega (arith, a.0.1) in
     let is : 48 + (d - 48) ≡ d = omega (arith, a.0.0) in
     let v = more_digits some w low in
     subst (Written (value_from (n * 10 + (d - 48)) ds)) (append_assoc es (d ∷ []) ds)
-    (goes_on (n * 10 + (d - 48)) (es ++ d ∷ []) ds (omega arith) (subst (λ x. Written (n * 10 + (d - 48)) (es ++ x ∷ [])) is v) a.1)
+    (goes_on (n * 10 + (d - 48)) (es ++ d ∷ []) ds (omega arith)
+    (subst (λ x. Written (n * 10 + (d - 48)) (es ++ x ∷ [])) is v) a.1)
 
 proper_written : {ds : List ℕ} → Proper ds → Written (value ds) ds
 proper_written zero_alone = one_digit (omega arith)
@@ -58,20 +63,22 @@ proper_written (no_leading_zero {d = d} {ds = ds} h n a) =
     let low : d - 48 < 10 = omega (arith, h.1) in
     let is : 48 + (d - 48) ≡ d = omega (arith, h.0) in
     let first : 0 * 10 + (d - 48) ≡ d - 48 = omega arith in
-    goes_on (0 * 10 + (d - 48)) (d ∷ []) ds (omega (arith, h.0, n)) (subst (λ x. Written x (d ∷ [])) (sym first) (subst (λ x. Written (d - 48) (x ∷ [])) is (one_digit low))) a
-
-all_append : (ds es : List ℕ) → AllByRecursion Digit ds → AllByRecursion Digit es → AllByRecursion Digit (ds ++ es)
-all_append [] es a b = b
-all_append (d ∷ ds) es a b = (a.0, all_append ds es a.1 b)
+    let one = subst (λ x. Written (d - 48) (x ∷ [])) is (one_digit low) in
+    goes_on (0 * 10 + (d - 48)) (d ∷ []) ds (omega (arith, h.0, n)) (subst (λ x. Written x (d ∷ [])) (sym first) one) a
 
 -- a digit after a number that is not 0
 longer : (n c : ℕ) (ds : List ℕ) → Proper ds → value ds ≡ n → 0 < n → Digit c → Proper (ds ++ c ∷ [])
 longer n c ds zero_alone e some h = absurd (omega arith)
-longer n c ds (no_leading_zero {d = d} {ds = es} k m a) e some h = no_leading_zero k m (all_append es (c ∷ []) a (h, tt))
+longer n c ds (no_leading_zero {d = d} {ds = es} k m a) e some h =
+    no_leading_zero k m (all_append Digit es (c ∷ []) a (h, tt))
 
 written_proper : {n : ℕ} {ds : List ℕ} → Written n ds → Proper ds
-written_proper (one_digit {d = d} h) = ⊎_elim (λ z. subst (λ x. Proper ((48 + x) ∷ [])) (sym z) zero_alone) (λ m. no_leading_zero (omega arith, omega arith) (λ e. m (omega arith)) tt) (cases_eq d 0)
-written_proper (more_digits {n = n} {d = d} {ds = ds} some w h) = longer n (48 + d) ds (written_proper w) (value_of w) some (omega arith, omega arith)
+written_proper (one_digit {d = d} h) =
+    ⊎_elim (λ z. subst (λ x. Proper ((48 + x) ∷ [])) (sym z) zero_alone)
+    (λ m. no_leading_zero (omega arith, omega arith) (λ e. m (omega arith)) tt)
+    (cases_eq d 0)
+written_proper (more_digits {n = n} {d = d} {ds = ds} some w h) =
+    longer n (48 + d) ds (written_proper w) (value_of w) some (omega arith, omega arith)
 
 printed : (n : ℕ) → n < 10 ^ 64 → Written n (decimal n)
 printed n h = decimal_by_steps_wide Written (λ n low. one_digit low) by_parts n h

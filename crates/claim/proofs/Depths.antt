@@ -27,23 +27,31 @@ parts o [] ys h = (tt, h)
 parts o (x ∷ xs) ys h = let r = parts (go o x.kind) xs ys h.1 in ((h.0, r.0), r.1)
 
 -- after what is derived
-after_derived : {l : Level} {ts : List Tok} {t : Tree} (n : ℕ) (r : List ℕ) (us : List Tok) → Derives l ts t → Shallow (Some (want n r)) ts → Shallow (Some (have r)) us → Shallow (Some (want n r)) (ts ++ us)
+after_derived : {l : Level} {ts : List Tok} {t : Tree} (n : ℕ) (r : List ℕ) (us : List Tok) → Derives l ts t
+    → Shallow (Some (want n r)) ts → Shallow (Some (have r)) us → Shallow (Some (want n r)) (ts ++ us)
 after_derived {ts = ts} n r us d h k = join (Some (want n r)) ts us h (subst (λ o. Shallow o us) (sym (comes d n r)) k)
 
-derived_parts : {l : Level} {ts : List Tok} {t : Tree} (n : ℕ) (r : List ℕ) (us : List Tok) → Derives l ts t → Shallow (Some (want n r)) (ts ++ us) → Shallow (Some (want n r)) ts × Shallow (Some (have r)) us
-derived_parts {ts = ts} n r us d h = let k = parts (Some (want n r)) ts us h in (k.0, subst (λ o. Shallow o us) (comes d n r) k.1)
+derived_parts : {l : Level} {ts : List Tok} {t : Tree} (n : ℕ) (r : List ℕ) (us : List Tok) → Derives l ts t
+    → Shallow (Some (want n r)) (ts ++ us) → Shallow (Some (want n r)) ts × Shallow (Some (have r)) us
+derived_parts {ts = ts} n r us d h =
+    let k = parts (Some (want n r)) ts us h in (k.0, subst (λ o. Shallow o us) (comes d n r) k.1)
 
-shallow : {l : Level} {ts : List Tok} {t : Tree} (d : Derives l ts t) (n : ℕ) (r : List ℕ) → n + depths r + nesting d ≤ 16 → Shallow (Some (want n r)) ts
+shallow : {l : Level} {ts : List Tok} {t : Tree} (d : Derives l ts t) (n : ℕ) (r : List ℕ)
+    → n + depths r + nesting d ≤ 16 → Shallow (Some (want n r)) ts
 shallow (one_term d) n r h = shallow d n r h
-shallow (more_terms {p = p} {us = us} d e) n r h = after_derived n r (tok p bar ∷ us) d (shallow d n r (omega arith)) ((λ o. elim o [ ]), shallow e 0 r (omega arith))
+shallow (more_terms {p = p} {us = us} d e) n r h =
+    after_derived n r (tok p bar ∷ us) d (shallow d n r (omega arith)) ((λ o. elim o [ ]), shallow e 0 r (omega arith))
 shallow (one_factor d) n r h = shallow d n r h
-shallow (more_factors {p = p} {us = us} d e) n r h = after_derived n r (tok p amp ∷ us) d (shallow d n r (omega arith)) ((λ o. elim o [ ]), shallow e 0 r (omega arith))
+shallow (more_factors {p = p} {us = us} d e) n r h =
+    after_derived n r (tok p amp ∷ us) d (shallow d n r (omega arith)) ((λ o. elim o [ ]), shallow e 0 r (omega arith))
 shallow (a_not d) n r h = ((λ o. omega arith), shallow d (n + 1) r (omega arith))
-shallow (in_parens q d) n r h = ((λ o. omega arith), after_derived 0 (n ∷ r) (tok q rparen ∷ []) d (shallow d 0 (n ∷ r) (omega arith)) ((λ o. elim o [ ]), tt))
+shallow (in_parens q d) n r h =
+    ((λ o. omega arith), after_derived 0 (n ∷ r) (tok q rparen ∷ []) d (shallow d 0 (n ∷ r) (omega arith)) ((λ o. elim o [ ]), tt))
 shallow a_constant n r h = ((λ o. elim o [ ]), tt)
 shallow a_name n r h = ((λ o. elim o [ ]), tt)
 
-nests : {l : Level} {ts : List Tok} {t : Tree} (d : Derives l ts t) (n : ℕ) (r : List ℕ) → Bare l n → n + depths r ≤ 16 → Shallow (Some (want n r)) ts → n + depths r + nesting d ≤ 16
+nests : {l : Level} {ts : List Tok} {t : Tree} (d : Derives l ts t) (n : ℕ) (r : List ℕ) → Bare l n
+    → n + depths r ≤ 16 → Shallow (Some (want n r)) ts → n + depths r + nesting d ≤ 16
 nests (one_term d) n r b h s = nests d n r b h s
 nests (more_terms {p = p} {us = us} d e) n r b h s =
     let k = derived_parts n r (tok p bar ∷ us) d s in
@@ -63,7 +71,8 @@ nests a_constant n r b h s = omega arith
 nests a_name n r b h s = omega arith
 
 shallow_text : {xs : List Tok} {t : Tree} (d : Says xs t) → deepest d ≤ 16 → Shallow (Some start) xs
-shallow_text (a_text p d) h = after_derived 0 [] (tok p end ∷ []) d (shallow d 0 [] (omega arith)) ((λ o. elim o [ ]), tt)
+shallow_text (a_text p d) h =
+    after_derived 0 [] (tok p end ∷ []) d (shallow d 0 [] (omega arith)) ((λ o. elim o [ ]), tt)
 
 text_nests : {xs : List Tok} {t : Tree} (d : Says xs t) → Shallow (Some start) xs → deepest d ≤ 16
 text_nests (a_text p d) s = omega (arith, nests d 0 [] refl (omega arith) (derived_parts 0 [] (tok p end ∷ []) d s).0)
@@ -84,10 +93,14 @@ gone (Some s) x xs e = by (next s x.kind) refl e
     by (Some u) h k = record { from = s; to = u; was = refl; goes = h }
 
 module _ (z : Sizes) (xs : List Tok) where
-  opened : (us vs : List Tok) (x : Tok) → xs ≡ us ++ x ∷ vs → run (Some start) xs ≡ Some over → Gone (run (Some start) us) x.kind
-  opened us vs x e whole = gone (run (Some start) us) x vs (sym (run_append (Some start) us (x ∷ vs)) ∙ ap (run (Some start)) (sym e) ∙ whole)
+  opened : (us vs : List Tok) (x : Tok) → xs ≡ us ++ x ∷ vs → run (Some start) xs ≡ Some over
+      → Gone (run (Some start) us) x.kind
+  opened us vs x e whole =
+      gone (run (Some start) us) x vs
+      (sym (run_append (Some start) us (x ∷ vs)) ∙ ap (run (Some start)) (sym e) ∙ whole)
 
-  not_deep : {ts : List Tok} {p : ℕ} {k : Kind} {f : Fault} (q : ℕ) → AtFault z ts p k f → f ≡ Deep q → Gone (run (Some start) ts) k → (Opens k → On (run (Some start) ts) (λ s. deep s < 16)) → ⊥
+  not_deep : {ts : List Tok} {p : ℕ} {k : Kind} {f : Fault} (q : ℕ) → AtFault z ts p k f → f ≡ Deep q
+      → Gone (run (Some start) ts) k → (Opens k → On (run (Some start) ts) (λ s. deep s < 16)) → ⊥
   not_deep q (no_claim v n) e g low = absurd (cc)
   not_deep q (no_such h) e g low = absurd (cc)
   not_deep {ts} {p} q (too_deep n o w l) e g low =
@@ -97,15 +110,30 @@ module _ (z : Sizes) (xs : List Tok) where
   pub never_deep : {t : Tree} (d : Says xs t) → deepest d ≤ 16 → (q : ℕ) → Fails z xs (Deep q) → ⊥
   never_deep d h q f =
       let x = tok f.place f.kind in
-      not_deep q f.why refl (opened f.before f.after x f.is (comes_over d)) (parts (Some start) f.before (x ∷ f.after) (subst (Shallow (Some start)) f.is (shallow_text d h))).1.0
+      let at = opened f.before f.after x f.is (comes_over d) in
+      let rest = subst (Shallow (Some start)) f.is (shallow_text d h) in
+      not_deep q f.why refl at (parts (Some start) f.before (x ∷ f.after) rest).1.0
 
   -- from any place on
-  shallow_from : ((q : ℕ) → Fails z xs (Deep q) → ⊥) → run (Some start) xs ≡ Some over → (us vs : List Tok) → xs ≡ us ++ vs → Shallow (run (Some start) us) vs
+  shallow_from : ((q : ℕ) → Fails z xs (Deep q) → ⊥) → run (Some start) xs ≡ Some over → (us vs : List Tok)
+      → xs ≡ us ++ vs → Shallow (run (Some start) us) vs
   shallow_from none whole us [] e = tt
   shallow_from none whole us (x ∷ vs) e =
       let g = opened us vs x e whole in
-      let few : Opens x.kind → On (run (Some start) us) (λ s. deep s < 16) = λ o. subst (λ m. On m (λ s. deep s < 16)) (sym g.was) (⊎_elim (λ lt. lt) (λ high. absurd (none x.place (record { before = us; place = x.place; kind = x.kind; after = vs; is = e; why = too_deep (deep g.from + 1) o (open_after us x.place g.from g.to o g.was g.goes) (omega arith) }))) (cases_lt (deep g.from) 16)) in
-      (few, subst (λ m. Shallow m vs) (run_append (Some start) us (x ∷ [])) (shallow_from none whole (us ++ x ∷ []) vs (e ∙ sym (push us x vs))))
+      let deep_at : 16 ≤ deep g.from → Opens x.kind → Fails z xs (Deep x.place) = λ high o. record {
+        before = us;
+        place = x.place;
+        kind = x.kind;
+        after = vs;
+        is = e;
+        why = too_deep (deep g.from + 1) o (open_after us x.place g.from g.to o g.was g.goes) (omega arith);
+      } in
+      let few : Opens x.kind → deep g.from < 16 = λ o.
+      ⊎_elim (λ lt. lt) (λ high. absurd (none x.place (deep_at high o))) (cases_lt (deep g.from) 16) in
+      let later = shallow_from none whole (us ++ x ∷ []) vs (e ∙ sym (push us x vs)) in (
+        λ o. subst (λ m. On m (λ s. deep s < 16)) (sym g.was) (few o),
+        subst (λ m. Shallow m vs) (run_append (Some start) us (x ∷ [])) later,
+      )
 
   pub depth : {t : Tree} (d : Says xs t) → (deepest d ≤ 16) ↔ ((q : ℕ) → Fails z xs (Deep q) → ⊥)
   depth d = (never_deep d, λ none. text_nests d (shallow_from none (comes_over d) [] xs refl))

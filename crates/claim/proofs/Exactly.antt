@@ -2,11 +2,13 @@
 use Rattle.std.proofs.Common.{◌≡◌, ℕ, ◌⊎◌, List, length, Ok, Err, Result, sym, refl, ap, ◌∙◌, subst, inl, inr, ⊎_elim, arith}
 use Rattle.std.proofs.lemmas.Bool.{cases_lt}
 use Rattle.circuit.specs.declared.sizes.Sizes.{Sizes}
+use Rattle.claim.specs.declared.codes.Codes.{Codes}
 use Rattle.claim.specs.declared.fault.Fault.{Fault}
 use Rattle.claim.specs.declared.fault.Fault.TheVariants.{Claim, Name, Deep}
 use Rattle.claim.specs.Tokens.{Kind, Tok, tok, tokens}
-use Rattle.claim.specs.Grammar.{Tree}
+use Rattle.claim.specs.Grammar.{Tree, post}
 use Rattle.claim.specs.Faults.{place_of, Opens, AtFault, no_claim, no_such, too_deep, Fails, First, Read, Refused, too_long, at_fault}
+use Rattle.claim.specs.Result.{used, Reads}
 use Rattle.claim.specs.Exact.{Exact}
 use Rattle.claim.specs.Machine.{State, scan}
 use Rattle.claim.proofs.Places.{Rising, rising, same_place}
@@ -73,3 +75,7 @@ module _ (bs : List ℕ) (z : Sizes) where
     not_both = not_both;
     always = ⊎_elim (λ long. inr (Claim 512, too_long long)) (λ short. either _ (outcome z bs short (scan z (Ok start) (tokens 0 0 bs)) refl)) (cases_lt 512 (length bs));
   }
+
+  -- a reading's codes are those of the tree that the text is read as
+  pub answered : (c : Codes) → Reads bs z c → (t : Tree) → Read bs z t → used c ≡ post t
+  answered c a t r = a.codes ∙ ap post (exact.one_tree a.tree t a.read r)

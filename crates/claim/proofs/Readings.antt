@@ -16,7 +16,8 @@ use Rattle.claim.proofs.Prefixes.{push}
 use Rattle.claim.proofs.Depths.{depth}
 use Rattle.claim.proofs.Spellings.{spelling}
 
-pub unfit : {z : Sizes} {ts : List Tok} {p : ℕ} {k : Kind} {f : Fault} (q : ℕ) → AtFault z ts p k f → f ≡ Claim q → Viable (ts ++ tok p k ∷ []) → ⊥
+pub unfit : {z : Sizes} {ts : List Tok} {p : ℕ} {k : Kind} {f : Fault} (q : ℕ) → AtFault z ts p k f → f ≡ Claim q
+    → Viable (ts ++ tok p k ∷ []) → ⊥
 unfit q (no_claim v n) e = n
 unfit q (no_such h) e = cc
 unfit q (too_deep n o h l) e = cc
@@ -27,11 +28,14 @@ Right x = x.kind ≢ wrong
 
 none_wrong : {l : Level} {ts : List Tok} {t : Tree} → Derives l ts t → NoneWrong ts
 none_wrong (one_term d) = none_wrong d
-none_wrong (more_terms {p = p} {ts = ts} {us = us} d e) = all_append Right ts (tok p bar ∷ us) (none_wrong d) ((λ w. cc), none_wrong e)
+none_wrong (more_terms {p = p} {ts = ts} {us = us} d e) =
+    all_append Right ts (tok p bar ∷ us) (none_wrong d) ((λ w. cc), none_wrong e)
 none_wrong (one_factor d) = none_wrong d
-none_wrong (more_factors {p = p} {ts = ts} {us = us} d e) = all_append Right ts (tok p amp ∷ us) (none_wrong d) ((λ w. cc), none_wrong e)
+none_wrong (more_factors {p = p} {ts = ts} {us = us} d e) =
+    all_append Right ts (tok p amp ∷ us) (none_wrong d) ((λ w. cc), none_wrong e)
 none_wrong (a_not d) = ((λ w. cc), none_wrong d)
-none_wrong (in_parens q {ts = ts} d) = ((λ w. cc), all_append Right ts (tok q rparen ∷ []) (none_wrong d) ((λ w. cc), tt))
+none_wrong (in_parens q {ts = ts} d) =
+    ((λ w. cc), all_append Right ts (tok q rparen ∷ []) (none_wrong d) ((λ w. cc), tt))
 none_wrong a_constant = ((λ w. cc), tt)
 none_wrong a_name = ((λ w. cc), tt)
 
@@ -49,9 +53,11 @@ module _ (z : Sizes) where
 
   fine : {l : Level} {ts : List Tok} {t : Tree} → Derives l ts t → Known z t → AllByRecursion Fine ts
   fine (one_term d) k = fine d k
-  fine (more_terms {p = p} {ts = ts} {us = us} d e) k = all_append Fine ts (tok p bar ∷ us) (fine d k.0) (tt, fine e k.1)
+  fine (more_terms {p = p} {ts = ts} {us = us} d e) k =
+      all_append Fine ts (tok p bar ∷ us) (fine d k.0) (tt, fine e k.1)
   fine (one_factor d) k = fine d k
-  fine (more_factors {p = p} {ts = ts} {us = us} d e) k = all_append Fine ts (tok p amp ∷ us) (fine d k.0) (tt, fine e k.1)
+  fine (more_factors {p = p} {ts = ts} {us = us} d e) k =
+      all_append Fine ts (tok p amp ∷ us) (fine d k.0) (tt, fine e k.1)
   fine (a_not d) k = (tt, fine d k)
   fine (in_parens q {ts = ts} d) k = (tt, all_append Fine ts (tok q rparen ∷ []) (fine d k) (tt, tt))
   fine a_constant k = (tt, tt)
@@ -59,9 +65,11 @@ module _ (z : Sizes) where
 
   known : {l : Level} {ts : List Tok} {t : Tree} → Derives l ts t → AllByRecursion Fine ts → Known z t
   known (one_term d) h = known d h
-  known (more_terms {p = p} {ts = ts} {us = us} d e) h = let k = all_parts Fine ts (tok p bar ∷ us) h in (known d k.0, known e k.1.1)
+  known (more_terms {p = p} {ts = ts} {us = us} d e) h =
+      let k = all_parts Fine ts (tok p bar ∷ us) h in (known d k.0, known e k.1.1)
   known (one_factor d) h = known d h
-  known (more_factors {p = p} {ts = ts} {us = us} d e) h = let k = all_parts Fine ts (tok p amp ∷ us) h in (known d k.0, known e k.1.1)
+  known (more_factors {p = p} {ts = ts} {us = us} d e) h =
+      let k = all_parts Fine ts (tok p amp ∷ us) h in (known d k.0, known e k.1.1)
   known (a_not d) h = known d h.1
   known (in_parens q {ts = ts} d) h = known d (all_parts Fine ts (tok q rparen ∷ []) h.1).0
   known a_constant h = tt
@@ -74,8 +82,12 @@ module _ (z : Sizes) where
   text_known (a_text {ts = ts} p d) h = known d (all_parts Fine ts (tok p end ∷ []) h).0
 
   module _ (xs : List Tok) where
-    there : ((p : ℕ) → Fails z xs (Name p) → ⊥) → (us : List Tok) (p : ℕ) (k : Kind) (vs : List Tok) → xs ≡ us ++ tok p k ∷ vs → There k
-    there none us p (name s ds) vs e = ⊎_elim (λ lt. lt) (λ far. absurd (none p (record { before = us; place = p; kind = name s ds; after = vs; is = e; why = no_such far }))) (cases_lt (value ds) (limit z s))
+    there : ((p : ℕ) → Fails z xs (Name p) → ⊥) → (us : List Tok) (p : ℕ) (k : Kind) (vs : List Tok)
+        → xs ≡ us ++ tok p k ∷ vs → There k
+    there none us p (name s ds) vs e =
+        let at : limit z s ≤ value ds → Fails z xs (Name p) = λ far.
+        record { before = us; place = p; kind = name s ds; after = vs; is = e; why = no_such far } in
+        ⊎_elim (λ lt. lt) (λ far. absurd (none p (at far))) (cases_lt (value ds) (limit z s))
     there none us p bang vs e = tt
     there none us p amp vs e = tt
     there none us p bar vs e = tt
@@ -92,19 +104,26 @@ module _ (z : Sizes) where
 
     -- what is derived, known and shallow has no fault
     faultless : (t : Tree) (d : Says xs t) → Known z t → deepest d ≤ 16 → (f : Fault) → Fails z xs f → ⊥
-    faultless t d k low (Claim q) h = unfit q h.why refl (h.after, t, subst (λ l. Says l t) (h.is ∙ sym (push h.before (tok h.place h.kind) h.after)) d)
-    faultless t d k low (Name q) h = not_named q h.why refl (all_parts Fine h.before (tok h.place h.kind ∷ h.after) (subst (AllByRecursion Fine) h.is (text_fine d k))).1.0
+    faultless t d k low (Claim q) h =
+        unfit q h.why refl
+        (h.after, t, subst (λ l. Says l t) (h.is ∙ sym (push h.before (tok h.place h.kind) h.after)) d)
+    faultless t d k low (Name q) h =
+        not_named q h.why refl
+        (all_parts Fine h.before (tok h.place h.kind ∷ h.after) (subst (AllByRecursion Fine) h.is (text_fine d k))).1.0
     faultless t d k low (Deep q) h = (depth z xs d).0 low q h
 
   module _ (bs : List ℕ) where
     -- and what is derived and has no fault is read
-    pub read_by : (t : Tree) → length bs ≤ 512 → Says (tokens 0 0 bs) t → ((f : Fault) → Fails z (tokens 0 0 bs) f → ⊥) → Read bs z t
+    pub read_by : (t : Tree) → length bs ≤ 512 → Says (tokens 0 0 bs) t
+        → ((f : Fault) → Fails z (tokens 0 0 bs) f → ⊥) → Read bs z t
     read_by t short d sound = record {
       short = short;
       spelling = tokens 0 0 bs;
       spelled = ((spelling bs).right (tokens 0 0 bs)).1 (refl, text_right d);
       derived = d;
-      known = text_known d (all_splits Fine (tokens 0 0 bs) (λ us x vs e. there (tokens 0 0 bs) (λ p. sound (Name p)) us x.place x.kind vs e));
+      known =
+          text_known d (all_splits Fine (tokens 0 0 bs) (λ us x vs e.
+          there (tokens 0 0 bs) (λ p. sound (Name p)) us x.place x.kind vs e));
       shallow = (depth z (tokens 0 0 bs) d).1 (λ p. sound (Deep p));
     }
 

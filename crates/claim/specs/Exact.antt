@@ -11,10 +11,11 @@ use Rattle.claim.specs.Nesting.{deepest}
 
 pub record Exact (bs : List ℕ) (z : Sizes) : Type 0 where
   pub spelling : Spelling bs
-  -- a text that the grammar derives is too deep nowhere exactly if at most 16 are open at once
+  -- no token of a derived text is the 17th that opens exactly if at most 16 are open at once
   pub depth : (ts : List Tok) (t : Tree) (d : Says ts t) → (deepest d ≤ 16) ↔ ((p : ℕ) → Fails z ts (Deep p) → ⊥)
-  -- a text is read exactly when it has at most 512 bytes, the grammar derives it and no token is at fault
-  pub reads : (t : Tree) → Read bs z t ↔ ((length bs ≤ 512) × Says (tokens 0 0 bs) t × ((f : Fault) → Fails z (tokens 0 0 bs) f → ⊥))
+  -- a text is read exactly when it is short, the grammar derives its tokens and none of them is at fault
+  pub reads : (t : Tree)
+      → Read bs z t ↔ ((length bs ≤ 512) × Says (tokens 0 0 bs) t × ((f : Fault) → Fails z (tokens 0 0 bs) f → ⊥))
   pub one_tree : (t u : Tree) → Read bs z t → Read bs z u → t ≡ u
   pub one_fault : (f g : Fault) → Refused bs z f → Refused bs z g → f ≡ g
   pub not_both : (t : Tree) (f : Fault) → Read bs z t → Refused bs z f → ⊥

@@ -39,7 +39,8 @@ pub data Proper : List ℕ → Type 0 where
 pub data Spells : ℕ → List ℕ → List Tok → ℕ → List ℕ → Type 0 where
   rest : {p : ℕ} {bs : List ℕ} → Spells p bs [] p bs
   space : {p q : ℕ} {bs cs : List ℕ} {ts : List Tok} → Spells (p + 1) bs ts q cs → Spells p (codes " " ++ bs) ts q cs
-  mark : {p q : ℕ} {m bs cs : List ℕ} {k : Kind} {ts : List Tok} → Mark m k → Spells (p + 1) bs ts q cs → Spells p (m ++ bs) (tok p k ∷ ts) q cs
+  mark : {p q : ℕ} {m bs cs : List ℕ} {k : Kind} {ts : List Tok} → Mark m k → Spells (p + 1) bs ts q cs
+      → Spells p (m ++ bs) (tok p k ∷ ts) q cs
   -- its number is all digits that follow
   letter : {p q : ℕ} {l ds bs cs : List ℕ} {s : Sort} {ts : List Tok} → Letter l s → Proper ds → NoDigit bs
       → Spells (p + 1 + length ds) bs ts q cs → Spells p (l ++ (ds ++ bs)) (tok p (name s ds) ∷ ts) q cs
@@ -68,5 +69,6 @@ NoneWrong ts = AllByRecursion (λ x. x.kind ≢ wrong) ts
 pub record Spelling (bs : List ℕ) : Type 0 where
   pub right : (ts : List Tok) → Spelled bs ts ↔ ((tokens 0 0 bs ≡ ts) × NoneWrong ts)
   pub first_wrong : (ts : List Tok) (q : ℕ)
-      → ((cs : List ℕ) × Spells 0 bs ts q cs × Stray cs) ↔ ((us : List Tok) × (tokens 0 0 bs ≡ ts ++ tok q wrong ∷ us) × NoneWrong ts)
+      → ((cs : List ℕ) × Spells 0 bs ts q cs × Stray cs)
+      ↔ ((us : List Tok) × (tokens 0 0 bs ≡ ts ++ tok q wrong ∷ us) × NoneWrong ts)
   pub one : (ts us : List Tok) → Spelled bs ts → Spelled bs us → ts ≡ us

@@ -1,12 +1,13 @@
 // Claims about a circuit: one or more terms joined by `|`, each one or more factors joined by `&`.
 #![tactic(auto)]
 
-ghost use Rattle.std.specs.Prelude.{MatchResult};
-ghost use Rattle.claim.specs.Faults.{Refused};
+ghost use Rattle.std.specs.Prelude.{◌≡◌, MatchResult, IsOkAnd};
+ghost use Rattle.claim.specs.Grammar.{Tree, post};
+ghost use Rattle.claim.specs.Faults.{Read, Refused};
 ghost use Rattle.claim.specs.Exact.{Exact};
 ghost use Rattle.claim.specs.Decimals.{Decimals};
 ghost use Rattle.claim.specs.Examples.{Examples};
-ghost use Rattle.claim.specs.Result.{Reads};
+ghost use Rattle.claim.specs.Result.{used, Reads};
 
 pub mod code;
 pub mod codes;
@@ -24,10 +25,12 @@ use reader::{Depth, Reader};
 // The most bytes of a text, and so the most codes of a claim.
 pub const LONGEST: usize = 512;
 
-// Reads a claim about a circuit of these sizes. Inlined, since its frame is large: as a call of its own it made short jobs slower.
+/// Reads a claim about a circuit of these sizes: its codes, operands first, or its first fault.
+// Inlined, since its frame is large: as a call of its own it made short jobs slower.
 #[inline(always)]
 pub fn read(text: &[u8], sizes: Sizes) -> Result<Codes, Fault>
     ensures answer { MatchResult result (λ c. Reads text.now sizes c) (λ f. Refused text.now sizes f) }
+    ensures reads { (t : Tree) → Read text.now sizes t → IsOkAnd result (λ c. used c ≡ post t) }
     ensures exact { Exact text.now sizes }
     ensures decimals { Decimals }
 {
