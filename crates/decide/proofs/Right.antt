@@ -6,7 +6,7 @@ use Rattle.circuit.specs.Files.{registers, sizes_at, says}
 use Rattle.circuit.specs.Netlists.{Netlist}
 use Rattle.circuit.specs.Rules.{reading}
 use Rattle.circuit.proofs.Passing.{reading_says, says_count, reading_sound}
-use Rattle.making.specs.declared.fault.Fault.{Fault as Refusal}
+use Rattle.uses.specs.declared.fault.Fault.{Fault as Refusal}
 use Rattle.runs.specs.Models.{Model, system, sizes, Describes}
 use Rattle.runs.specs.Search.{unsafe, verdict}
 use Rattle.job.specs.Frames.{Parts, frame}

@@ -4,8 +4,8 @@ use Rattle.std.proofs.lemmas.Result.{err_from_is_err_and}
 use Rattle.store.specs.Meaning.{Shown}
 use Rattle.description.specs.Checks.{Checked, right}
 use Rattle.description.specs.declared.fault.Fault.{Fault as Misdescription}
-use Rattle.making.specs.declared.fault.Fault.{Fault as Refusal}
-use Rattle.making.specs.declared.fault.Fault.TheVariants.{Description, Empty}
+use Rattle.uses.specs.declared.fault.Fault.{Fault as Refusal}
+use Rattle.uses.specs.declared.fault.Fault.TheVariants.{Description, Empty}
 use Rattle.making.specs.Making.{Item, Stops}
 use Rattle.making.specs.Loads.{load_list}
 use Rattle.runs.specs.Models.{Model, Valid, system, Describes}

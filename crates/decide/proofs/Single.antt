@@ -9,7 +9,7 @@ use Rattle.circuit.specs.declared.sizes.Sizes.{Sizes}
 use Rattle.description.specs.Checks.{Checked, right}
 use Rattle.description.specs.declared.fault.Fault.{Fault as Misdescription}
 use Rattle.description.proofs.Checks.{never, one_check}
-use Rattle.making.specs.declared.fault.Fault.TheVariants.{Description}
+use Rattle.uses.specs.declared.fault.Fault.TheVariants.{Description}
 use Rattle.runs.specs.Models.{Model, system, sizes}
 use Rattle.runs.specs.Search.{unsafe, safe, open_yet, verdict, Reached}
 use Rattle.runs.specs.Search as search

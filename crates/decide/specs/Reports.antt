@@ -5,7 +5,7 @@ use Rattle.circuit.specs.declared.sizes.Sizes.{Sizes}
 use Rattle.description.specs.Checks.{Checked}
 use Rattle.description.specs.declared.fault.Fault.{Fault as Misdescription}
 use Rattle.description.specs.declared.part.Part.{Part}
-use Rattle.making.specs.declared.fault.Fault.TheVariants.{Description, Room}
+use Rattle.making.specs.declared.fault.Fault.TheVariants.{Room}
 use Rattle.making.specs.Making.{Item, Runs, Stops}
 use Rattle.making.specs.Loads.{load_list, advance_list}
 use Rattle.runs.specs.Models.{Model, system, sizes, Describes}
@@ -13,6 +13,7 @@ use Rattle.runs.specs.Search.{unsafe, safe, open_yet, verdict, inside}
 use Rattle.runs.specs.Search as search
 use Rattle.runs.specs.Systems.{Breaking}
 use Rattle.runs.specs.Verdicts.{Safe, Unsafe}
+use Rattle.uses.specs.declared.fault.Fault.TheVariants.{Description, Making}
 use Rattle.uses.specs.Uses.{room}
 use Rattle.job.specs.Frames.{Parts, frame}
 use Rattle.job.specs.declared.fault.Fault.{Fault as Unframed}
@@ -62,7 +63,7 @@ pub data Reports (s : Shown) (bs : List ℕ) : Report → Type 0 where
 
 -- the job was refused for room
 pub data Full : Report → Type 0 where
-  full : {q : Part} {l u : ℕ} → Full (report.Refused (Call (Room q l u)))
+  full : {q : Part} {l u : ℕ} → Full (report.Refused (Call (Making (Room q l u))))
 
 -- no other report is right, unless one of the two is a refusal for room
 abbrev pub Only : Shown → List ℕ → Report → Type 0

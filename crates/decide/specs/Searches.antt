@@ -2,7 +2,7 @@
 use Rattle.std.specs.Prelude.{◌≡◌, ℕ, List, Ok, Err, Result, MatchResult}
 use Rattle.store.specs.Meaning.{Shown}
 use Rattle.circuit.specs.Files.{sizes_at}
-use Rattle.making.specs.declared.fault.Fault.{Fault as Refusal}
+use Rattle.uses.specs.declared.fault.Fault.{Fault as Refusal}
 use Rattle.making.specs.Making.{Item, Stops}
 use Rattle.making.specs.Loads.{advance_list}
 use Rattle.runs.specs.Models.{Model, system, sizes}

@@ -4,7 +4,7 @@ ghost use Rattle.decide.specs.Faults.{notice_of};
 
 use description::notice::Notice;
 use job::fault::Fault as Unframed;
-use making::fault::Fault as Refusal;
+use uses::fault::Fault as Refusal;
 
 // Why a job is refused.
 #[derive(Clone, Copy, PartialEq, Eq, Debug)]

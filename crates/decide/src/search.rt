@@ -1,6 +1,6 @@
 // The search of a loaded session.
 ghost use Rattle.std.specs.Prelude.{◌≡◌, Err};
-ghost use Rattle.making.specs.declared.fault.Fault.TheVariants.{Empty};
+ghost use Rattle.uses.specs.declared.fault.Fault.TheVariants.{Empty};
 ghost use Rattle.uses.specs.Calls.{empty};
 ghost use Rattle.engine.specs.Keeping.{world, Keeps};
 ghost use Rattle.decide.specs.Searches.{Settles};
@@ -8,8 +8,8 @@ ghost use Rattle.decide.specs.Searches.{Settles};
 use super::settled::{Depth, Settled};
 use engine::search::MOST_STEPS;
 use engine::session::Session;
-use making::fault::Fault;
 use store::Store;
+use uses::fault::Fault;
 use uses::verdict::Verdict;
 
 // Advances a search that has just begun until its verdict is settled. An empty session is refused, as an advance refuses it.

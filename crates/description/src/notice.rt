@@ -1,4 +1,5 @@
-ghost use Rattle.std.specs.Prelude.{Some};
+ghost use Rattle.std.specs.Prelude.{◌≡◌, Some};
+ghost use Rattle.description.specs.declared.part.Part.TheVariants.{Call};
 ghost use Rattle.description.specs.Notices.{notice_text};
 
 use crate::part::Part;
@@ -10,6 +11,19 @@ pub struct Notice {
     pub number: u8,
     pub part: Part,
     pub place: usize,
+}
+
+impl Notice {
+    /// The notice of a call that is refused as a whole, at no place in it.
+    pub fn of_call(number: u8) -> Notice
+        ensures { result ≡ record { number = number; part = Call; place = 0 } }
+    {
+        Notice {
+            number,
+            part: Part::Call,
+            place: 0,
+        }
+    }
 }
 
 impl fmt::Display for Notice {

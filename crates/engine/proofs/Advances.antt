@@ -3,8 +3,7 @@ use Rattle.std.proofs.Common.{◌≡◌, ℕ, suc, ◌<◌, ◌≤◌, ◌+◌, 
 use Rattle.std.proofs.Math.Seq.{get_or-append_seam}
 use Rattle.std.proofs.lemmas.List.{get_or_append_left, length-append}
 use Rattle.store.specs.Meaning.{Shown, Grown, Lawful}
-use Rattle.making.specs.declared.fault.Fault.{Fault}
-use Rattle.making.specs.declared.fault.Fault.TheVariants as fault
+use Rattle.making.specs.declared.fault.Fault.{Fault as Unmade}
 use Rattle.making.specs.Ends.{Ends, made, stuck, located}
 use Rattle.making.specs.Loads.{registers_of, advance_list}
 use Rattle.making.specs.Making.{Means, Stops, here, later}
@@ -16,6 +15,7 @@ use Rattle.runs.specs.Search as search
 use Rattle.runs.specs.Valuations.{set_fn}
 use Rattle.runs.proofs.Models.{functions_exact}
 use Rattle.runs.proofs.Verdicts.{verdicts}
+use Rattle.uses.specs.declared.fault.Fault.TheVariants as fault
 use Rattle.uses.specs.declared.verdict.Verdict.TheVariants as verdict
 use Rattle.uses.specs.Calls.{loaded, tell, advance, stand}
 use Rattle.uses.specs.Uses.{Step, advance_settled, advance_full, advances}
@@ -63,7 +63,7 @@ module _ (w : World) (k : Search) (e : w.search ≡ Some k) where
     open_here m j h = tell_open (search.verdict (system m) j) (sym h.verdict ∙ o)
 
     -- what the code did
-    ran : (m : Model) (j : ℕ) → Reached (system m) j → Sets m j w.store k → (r : Result Stage Fault) → Advances w.store k r t → Ends located w.store t (advance_list m j) (Reaches t m j) r
+    ran : (m : Model) (j : ℕ) → Reached (system m) j → Sets m j w.store k → (r : Result Stage Unmade) → Advances w.store k r t → Ends located w.store t (advance_list m j) (Reaches t m j) r
     ran m j r h x f = f m j (record {
       valid = h.valid;
       registers = h.registers;
@@ -76,14 +76,14 @@ module _ (w : World) (k : Search) (e : w.search ≡ Some k) where
       undecided = open_here m j h;
     })
 
-    pub when_full : (x : Fault) → Advances w.store k (Err x) t → Next w (advance (Err x)) (searching t k)
+    pub when_full : (x : Unmade) → Advances w.store k (Err x) t → Next w (advance (Err (fault.Making x))) (searching t k)
     when_full x f = from_some w _ k e _ (λ m j r h. by m j h (ran m j r h (Err x) f))
       where
         by : (m : Model) (j : ℕ) → Sets m j w.store k → Ends located w.store t (advance_list m j) (Reaches t m j) (Err x)
-            → Leads_on w (advance (Err x)) (loaded m j) (searching t k)
+            → Leads_on w (advance (Err (fault.Making x))) (loaded m j) (searching t k)
         by m j h (stuck y q z) = (
           loaded m j,
-          subst (λ i. Step (stand (loaded m j) w.store) (advance (Err i)) (stand (loaded m j) t)) (sym z) (advance_full (open_here m j h) q),
+          subst (λ i. Step (stand (loaded m j) w.store) (advance (Err (fault.Making i))) (stand (loaded m j) t)) (sym z) (advance_full (open_here m j h) q),
           sets_kept m j w.store t k (stops_grown q) (stops_lawful q) h,
         )
 

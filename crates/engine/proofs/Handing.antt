@@ -2,12 +2,12 @@
 use Rattle.std.proofs.Common.{◌≡◌, ℕ, suc, ◌+◌, ◌≤◌, Bool, true, false, cond, List, ◌++◌, take, drop, length, Some, Ok, Err, Result, sym, refl, ap, ◌∙◌, subst, add-one, arith}
 use Rattle.std.proofs.lemmas.List.{get_or-take, length-take-le, take-append-drop}
 use Rattle.std.proofs.lemmas.List.FromFn.{fill_by_all}
-use Rattle.making.specs.declared.fault.Fault.{Fault}
-use Rattle.making.specs.declared.fault.Fault.TheVariants as fault
 use Rattle.runs.specs.Models.{Model, system}
 use Rattle.runs.specs.Search.{unsafe, safe, open_yet, bad, meets_init, stable, verdict_by}
 use Rattle.runs.specs.Search as search
 use Rattle.runs.specs.Systems.{System}
+use Rattle.uses.specs.declared.fault.Fault.{Fault}
+use Rattle.uses.specs.declared.fault.Fault.TheVariants as fault
 use Rattle.uses.specs.declared.verdict.Verdict.TheVariants as verdict
 use Rattle.uses.specs.Calls.{loaded, tell, trace, stand, written}
 use Rattle.uses.specs.Uses.{Step, trace_verdict, trace_short, traces}

@@ -3,9 +3,9 @@ use Rattle.std.proofs.Common.{◌≡◌, ℕ, true, false, Option, Some, None, M
 use Rattle.std.specs.Option.{is_some, option_map, ok_or}
 use Rattle.std.proofs.lemmas.Result.{err_from_is_err_and}
 use Rattle.store.specs.Meaning.{Shown}
-use Rattle.making.specs.declared.fault.Fault.{Fault}
 use Rattle.runs.specs.Models.{Model, system}
 use Rattle.runs.specs.Search.{Reached}
+use Rattle.uses.specs.declared.fault.Fault.{Fault}
 use Rattle.uses.specs.declared.verdict.Verdict.{Verdict}
 use Rattle.uses.specs.declared.verdict.Verdict.TheVariants as verdict
 use Rattle.uses.specs.Calls.{State, empty, loaded, told, Call, ask, stand, event}

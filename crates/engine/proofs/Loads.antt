@@ -11,8 +11,7 @@ use Rattle.description.specs.Checks.{Checked, right}
 use Rattle.description.specs.Results.{Understood}
 use Rattle.description.specs.declared.described.Described.{Described}
 use Rattle.description.specs.declared.fault.Fault.{Fault as Misdescription}
-use Rattle.making.specs.declared.fault.Fault.{Fault}
-use Rattle.making.specs.declared.fault.Fault.TheVariants as fault
+use Rattle.making.specs.declared.fault.Fault.{Fault as Unmade}
 use Rattle.making.specs.declared.parts.Built.{Built}
 use Rattle.making.specs.declared.parts.Parts.{Parts}
 use Rattle.making.specs.Ends.{Ends, made, stuck, located}
@@ -24,6 +23,7 @@ use Rattle.runs.specs.Models.{Model, Valid}
 use Rattle.runs.specs.Search.{stable, unsafe, open_yet, verdict_by}
 use Rattle.runs.specs.Valuations.{claim_fn, init_fn, set_fn}
 use Rattle.runs.proofs.Models.{functions_exact, descriptions_valid}
+use Rattle.uses.specs.declared.fault.Fault.TheVariants as fault
 use Rattle.uses.specs.declared.verdict.Verdict.TheVariants as verdict
 use Rattle.uses.specs.Calls.{empty, loaded, tell, told, load, stand}
 use Rattle.uses.specs.Uses.{Step, load_twice, load_wrong, load_full, loads}
@@ -56,7 +56,7 @@ module _ (x a p : List ℕ) (w : World) where
       checked : Checked w.store.vars x a p (Ok model)
       checked = subst (λ n. Checked n x a p (Ok model)) told_of.variables (right known.describes)
 
-      ran : (r : Result Built Fault) → Builds t (netlist d.circuit) (used d.assumption) (used d.property) r v
+      ran : (r : Result Built Unmade) → Builds t (netlist d.circuit) (used d.assumption) (used d.property) r v
           → Ends located w.store v (load_list model) (Loaded v model (claim_fn model model.assumption) (claim_fn model model.property)) r
       ran r b =
           let at_store = subst (λ (s : Shown). Builds s (netlist d.circuit) (used d.assumption) (used d.property) r v) same b in
@@ -64,12 +64,12 @@ module _ (x a p : List ℕ) (w : World) where
           at_model model.assumption model.property known.assumed known.promised valid.0.assumption valid.0.property told_of.lawful
           (omega (arith, valid.1, told_of.variables))
 
-      pub when_full : (i : Fault) → Builds t (netlist d.circuit) (used d.assumption) (used d.property) (Err i) v → Next w (load x a p (Err i)) (record { store = v; search = w.search })
+      pub when_full : (i : Unmade) → Builds t (netlist d.circuit) (used d.assumption) (used d.property) (Err i) v → Next w (load x a p (Err (fault.Making i))) (record { store = v; search = w.search })
       when_full i b = from_none w _ (record { store = v; search = w.search }) e (by (ran (Err i) b))
         where
           by : Ends located w.store v (load_list model) (Loaded v model (claim_fn model model.assumption) (claim_fn model model.property)) (Err i)
-              → Leads_on w (load x a p (Err i)) empty (record { store = v; search = w.search })
-          by (stuck y q z) = (empty, subst (λ o. Step (stand empty w.store) (load x a p (Err o)) (stand empty v)) (sym z) (load_full checked q), e)
+              → Leads_on w (load x a p (Err (fault.Making i))) empty (record { store = v; search = w.search })
+          by (stuck y q z) = (empty, subst (λ o. Step (stand empty w.store) (load x a p (Err (fault.Making o))) (stand empty v)) (sym z) (load_full checked q), e)
 
       -- the verdict after a load
       begun : (b : Built) → Loaded v model (claim_fn model model.assumption) (claim_fn model model.property) b

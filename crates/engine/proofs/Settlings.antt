@@ -1,7 +1,7 @@
 -- Advances up to a settled verdict.
 use Rattle.std.proofs.Common.{◌≡◌, ℕ, suc, ◌<◌, ◌≤◌, ◌^◌, List, ◌∷◌, ◌++◌, Option, None, Some, MatchOption, MatchResult, Result, sym, refl, ap, ◌∙◌, subst, arith, pow_mono}
 use Rattle.store.specs.Meaning.{Shown}
-use Rattle.making.specs.declared.fault.Fault.{Fault}
+use Rattle.uses.specs.declared.fault.Fault.{Fault}
 use Rattle.runs.specs.Models.{Model, Valid, system}
 use Rattle.runs.specs.Search.{unsafe, verdict}
 use Rattle.runs.proofs.Verdicts.{verdicts}

@@ -1,7 +1,7 @@
 -- One advance of a search.
 use Rattle.std.specs.Prelude.{◌≡◌, ℕ, suc, Result}
 use Rattle.store.specs.Meaning.{Shown, Lawful}
-use Rattle.making.specs.declared.fault.Fault.{Fault}
+use Rattle.making.specs.declared.fault.Fault.{Fault as Unmade}
 use Rattle.making.specs.Making.{Means}
 use Rattle.making.specs.Loads.{registers_of, Kept, advance_list}
 use Rattle.making.specs.Ends.{Ends, located}
@@ -32,5 +32,5 @@ pub record Reaches (t : Shown) (m : Model) (j : ℕ) (x : Stage) : Type 0 where
   pub verdict : x.verdict ≡ told (loaded m (suc j))
 
 -- the list of an advance from B_j is made, and leads to the next set; or a call of it is refused
-abbrev pub Advances : Shown → Search → Result Stage Fault → Shown → Type 0
+abbrev pub Advances : Shown → Search → Result Stage Unmade → Shown → Type 0
 Advances s k r t = (m : Model) (j : ℕ) → Ready s m j k → Ends located s t (advance_list m j) (Reaches t m j) r

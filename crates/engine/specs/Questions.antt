@@ -4,7 +4,7 @@ use Rattle.arrayvec.specs.ArrayVec.{array_vec_len}
 use Rattle.std.specs.Borrow.{MutBor}
 use Rattle.store.specs.Fun.{Fn}
 use Rattle.store.specs.Meaning.{Shown}
-use Rattle.making.specs.declared.fault.Fault.{Fault}
+use Rattle.making.specs.declared.fault.Fault.{Fault as Unmade}
 use Rattle.making.specs.declared.parts.Parts.{Parts}
 use Rattle.making.specs.Making.{Means}
 use Rattle.making.specs.Loads.{registers_of, Kept}
@@ -13,6 +13,7 @@ use Rattle.runs.specs.Valuations.{claim_fn, next_fn, init_fn, set_fn}
 use Rattle.runs.specs.Models.{Model, system, Valid}
 use Rattle.runs.specs.Search.{faulty, leads_into, bad, initial_in, unsafe, verdict, Reached, Least, Trace}
 use Rattle.runs.specs.Systems.{State, Input}
+use Rattle.uses.specs.declared.fault.Fault.{Fault}
 use Rattle.engine.specs.declared.search.Search.{Search}
 use Rattle.engine.specs.Keeping.{Sets}
 
@@ -26,33 +27,33 @@ pub record Readable (s : Shown) (m : Model) (k : Parts) : Type 0 where
   pub init : Means s k.init (init_fn m)
 
 -- the truth of number a at the valuation of a state and an input
-abbrev pub Tells : Shown → ℕ → ℕ → ℕ → ℕ → Result Bool Fault → Type 0
+abbrev pub Tells : Shown → ℕ → ℕ → ℕ → ℕ → Result Bool Unmade → Type 0
 Tells s n a q v r = (m : ℕ) (f : Fn) → Means s a f → 2 * n + m ≤ s.vars → q < 2 ^ n → v < 2 ^ m → r ≡ Ok (f (spread n q v))
 
-abbrev pub GoesTo : Shown → Parts → ℕ → ℕ → Result ℕ Fault → Type 0
+abbrev pub GoesTo : Shown → Parts → ℕ → ℕ → Result ℕ Unmade → Type 0
 GoesTo s k q v r = (m : Model) → Readable s m k → State (system m) q → Input (system m) v → r ≡ Ok ((system m).next q v)
 
 -- a is the number of the set B_i
-abbrev pub Leads : Shown → Parts → ℕ → ℕ → ℕ → Result Bool Fault → Type 0
+abbrev pub Leads : Shown → Parts → ℕ → ℕ → ℕ → Result Bool Unmade → Type 0
 Leads s k a q v r = (m : Model) (i : ℕ) → Readable s m k → Means s a (set_fn m i) → State (system m) q → Input (system m) v
     → r ≡ Ok (leads_into (system m) (bad (system m) i) q v)
 
-abbrev pub Faults : Shown → Parts → ℕ → ℕ → Result Bool Fault → Type 0
+abbrev pub Faults : Shown → Parts → ℕ → ℕ → Result Bool Unmade → Type 0
 Faults s k q v r = (m : Model) → Readable s m k → State (system m) q → Input (system m) v → r ≡ Ok (faulty (system m) q v)
 
-abbrev pub Begins : Shown → Parts → ℕ → ℕ → Result Bool Fault → Type 0
+abbrev pub Begins : Shown → Parts → ℕ → ℕ → Result Bool Unmade → Type 0
 Begins s k a q r = (m : Model) (i : ℕ) → Readable s m k → Means s a (set_fn m i) → State (system m) q → r ≡ Ok (initial_in (system m) (bad (system m) i) q)
 
 -- a call of a test leaves what the store shows
-abbrev pub Keeping : {A : Type 0} → (A → Shown) → (MutBor A → ℕ → Result Bool Fault → MutBor A → Type 0) → Type 0
-Keeping {A} shows calls = (a b : MutBor A) (x : ℕ) (r : Result Bool Fault) → calls a x r b → shows b.now ≡ shows a.now
+abbrev pub Keeping : {A : Type 0} → (A → Shown) → (MutBor A → ℕ → Result Bool Unmade → MutBor A → Type 0) → Type 0
+Keeping {A} shows calls = (a b : MutBor A) (x : ℕ) (r : Result Bool Unmade) → calls a x r b → shows b.now ≡ shows a.now
 
 -- below n a test answers f, where the store shows s
-abbrev pub Telling : {A : Type 0} → (A → Shown) → (MutBor A → ℕ → Result Bool Fault → MutBor A → Type 0) → Shown → ℕ → (ℕ → Bool) → Type 0
-Telling {A} shows calls s n f = (a b : MutBor A) (x : ℕ) (r : Result Bool Fault) → shows a.now ≡ s → x < n → calls a x r b → r ≡ Ok (f x)
+abbrev pub Telling : {A : Type 0} → (A → Shown) → (MutBor A → ℕ → Result Bool Unmade → MutBor A → Type 0) → Shown → ℕ → (ℕ → Bool) → Type 0
+Telling {A} shows calls s n f = (a b : MutBor A) (x : ℕ) (r : Result Bool Unmade) → shows a.now ≡ s → x < n → calls a x r b → r ≡ Ok (f x)
 
 -- the smallest number below n at which f holds; a refusal if there is none
-abbrev pub Finds : ℕ → (ℕ → Bool) → Result ℕ Fault → Type 0
+abbrev pub Finds : ℕ → (ℕ → Bool) → Result ℕ Unmade → Type 0
 Finds n f (Ok x) = Least n f x
 Finds n f (Err e) = (x : ℕ) → x < n → f x ≡ false
 

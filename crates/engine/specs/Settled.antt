@@ -1,7 +1,7 @@
 -- What stands after advances up to a settled verdict.
 use Rattle.std.specs.Prelude.{◌≡◌, ℕ, List, [], ◌∷◌, ◌++◌, Ok, Err}
 use Rattle.store.specs.Meaning.{Shown}
-use Rattle.making.specs.declared.fault.Fault.{Fault}
+use Rattle.uses.specs.declared.fault.Fault.{Fault}
 use Rattle.runs.specs.Models.{Model, system}
 use Rattle.runs.specs.Search.{Verdict, unsafe, safe, open_yet, verdict}
 use Rattle.uses.specs.declared.verdict.Verdict.{Verdict as Answer}

@@ -1,7 +1,7 @@
 -- Advances up to a settled verdict.
 use Rattle.std.specs.Prelude.{◌≡◌, List, Option, None, Some, Result, MatchResult}
 use Rattle.store.specs.Meaning.{Shown}
-use Rattle.making.specs.declared.fault.Fault.{Fault}
+use Rattle.uses.specs.declared.fault.Fault.{Fault}
 use Rattle.runs.specs.Models.{Model, system}
 use Rattle.runs.specs.Search.{verdict}
 use Rattle.uses.specs.Calls.{State, loaded, stand, Event}

@@ -9,14 +9,15 @@ use super::search::{MOST_ADVANCES, Search};
 use super::session::Session;
 use super::stage::{Stage, verdict_at};
 use description::part::Part;
-use making::fault::Fault;
+use making::fault::Fault as Unmade;
 use making::{back, place_at};
 use store::Store;
+use uses::fault::Fault;
 use uses::verdict::Verdict;
 
 impl Search {
     // From the last set the next one, and the verdict with it.
-    fn step<S: Store>(&self, store: &mut S) -> Result<Stage, Fault>
+    fn step<S: Store>(&self, store: &mut S) -> Result<Stage, Unmade>
         requires { array_vec_len self.now.earlier < MOST_ADVANCES }
         ensures { Advances (S.Store.shows store.old) self.now result (S.Store.shows store.new) }
     {

@@ -11,9 +11,9 @@ use arrayvec::ArrayVec;
 use description::describe;
 use description::source::Source;
 use making::build;
-use making::fault::Fault;
 use making::parts::Built;
 use store::Store;
+use uses::fault::Fault;
 use uses::verdict::Verdict;
 
 // The search that a load begins.

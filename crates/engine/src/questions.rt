@@ -8,8 +8,8 @@ ghost use Rattle.engine.specs.Keeping.{world, Keeps, Next};
 
 use super::session::Session;
 use super::step::Step;
-use making::fault::Fault;
 use store::Store;
+use uses::fault::Fault;
 use uses::verdict::Verdict;
 
 impl<S: Store> Session<S> {

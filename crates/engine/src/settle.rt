@@ -6,8 +6,8 @@ ghost use Rattle.engine.specs.Settling.{Settles, SettledOn};
 use super::search::{MOST_STEPS, Search};
 use super::session::Session;
 use super::settled::{Depth, Settled};
-use making::fault::Fault;
 use store::Store;
+use uses::fault::Fault;
 use uses::verdict::Verdict;
 
 impl Search {

@@ -7,7 +7,7 @@ ghost use Rattle.engine.specs.Questions.{Tells, GoesTo, Leads, Faults, Begins};
 use super::search::Search;
 use super::step::Step;
 use description::part::Part;
-use making::fault::Fault;
+use making::fault::Fault as Unmade;
 use making::place_at;
 use store::Store;
 
@@ -18,7 +18,7 @@ impl Search {
         store: &mut S,
         function: u16,
         step: Step,
-    ) -> Result<bool, Fault>
+    ) -> Result<bool, Unmade>
         ensures same { S.Store.shows store.new ≡ S.Store.shows store.old }
         ensures tells { Tells (S.Store.shows store.old) (registers_of self.now.parts) function step.state step.input result }
     {
@@ -27,7 +27,7 @@ impl Search {
     }
 
     // The state after a step.
-    pub(crate) fn next_state<S: Store>(&self, store: &mut S, step: Step) -> Result<u16, Fault>
+    pub(crate) fn next_state<S: Store>(&self, store: &mut S, step: Step) -> Result<u16, Unmade>
         ensures same { S.Store.shows store.new ≡ S.Store.shows store.old }
         ensures goes { GoesTo (S.Store.shows store.old) self.now.parts step.state step.input result }
     {
@@ -44,7 +44,7 @@ impl Search {
         store: &mut S,
         set: u16,
         step: Step,
-    ) -> Result<bool, Fault>
+    ) -> Result<bool, Unmade>
         ensures same { S.Store.shows store.new ≡ S.Store.shows store.old }
         ensures leads { Leads (S.Store.shows store.old) self.now.parts set step.state step.input result }
     {
@@ -56,7 +56,7 @@ impl Search {
     }
 
     // Whether a step satisfies the assumption and the property fails there.
-    pub(crate) fn at_fault<S: Store>(&self, store: &mut S, step: Step) -> Result<bool, Fault>
+    pub(crate) fn at_fault<S: Store>(&self, store: &mut S, step: Step) -> Result<bool, Unmade>
         ensures same { S.Store.shows store.new ≡ S.Store.shows store.old }
         ensures faults { Faults (S.Store.shows store.old) self.now.parts step.state step.input result }
     {
@@ -72,7 +72,7 @@ impl Search {
         store: &mut S,
         set: u16,
         state: u16,
-    ) -> Result<bool, Fault>
+    ) -> Result<bool, Unmade>
         ensures same { S.Store.shows store.new ≡ S.Store.shows store.old }
         ensures begins { Begins (S.Store.shows store.old) self.now.parts set state result }
     {

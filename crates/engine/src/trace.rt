@@ -9,8 +9,8 @@ use super::finding::smallest;
 use super::search::Search;
 use super::session::Session;
 use super::step::Step;
-use making::fault::Fault;
 use store::Store;
+use uses::fault::Fault;
 use uses::verdict::Verdict;
 
 impl Search {

@@ -14,10 +14,10 @@ pub mod request;
 
 use engine::session::Session;
 use exchange::Exchange;
-use making::fault::Fault;
 use reply::Reply;
 use request::Request;
 use store::Store;
+use uses::fault::Fault;
 
 /// Makes every request in order of a new session over the store, writes each reply, and hands the store back.
 pub fn serve<S: Store>(store: S, exchanges: &mut [Exchange<'_>]) -> S

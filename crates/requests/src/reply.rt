@@ -1,4 +1,4 @@
-use making::fault::Fault;
+use uses::fault::Fault;
 use uses::verdict::Verdict;
 
 /// What a session answers to a request of the same name.

@@ -10,8 +10,8 @@ use description::notice::Notice;
 use description::part::Part;
 use job::fault::Fault as Unframed;
 use job::{LONGEST, VARIABLES, split};
-use making::fault::Fault as Uncalled;
 use std::test::Fail;
+use uses::fault::Fault as Uncalled;
 
 // One register that follows one input, with the assumption `1` and the property `!s0`.
 pub(crate) const JOB: [u8; 22] = [

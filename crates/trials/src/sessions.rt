@@ -7,7 +7,6 @@ use description::source::Source;
 use diagram::Diagram;
 use engine::session::Session;
 use engine::step::Step;
-use making::fault::Fault;
 use nodes::Node;
 use order::Layer;
 use std::array;
@@ -16,6 +15,7 @@ use std::test::Fail;
 use store::Store;
 use table::Table;
 use table::truths::Truths;
+use uses::fault::Fault;
 use uses::verdict::Verdict;
 
 const ORDER: [u8; 10] = [9, 3, 0, 7, 1, 8, 2, 6, 5, 4];

@@ -5,13 +5,13 @@ use Rattle.store.specs.Meaning.{Shown, Lawful, holds}
 use Rattle.description.specs.Checks.{Checked}
 use Rattle.description.specs.declared.fault.Fault.{Fault as Misdescription}
 use Rattle.description.proofs.Checks.{one_check}
-use Rattle.making.specs.declared.fault.Fault.{Fault}
-use Rattle.making.specs.declared.fault.Fault.TheVariants.{Description}
 use Rattle.making.specs.Making.{Item, Runs, Stops, here, later, Held, none, more, Found, all, first, missing}
 use Rattle.making.specs.Loads.{load_list}
 use Rattle.making.proofs.Bounds.{runs_held, stops_missing}
 use Rattle.runs.specs.Models.{Model, system}
 use Rattle.runs.proofs.Traces as runs
+use Rattle.uses.specs.declared.fault.Fault.{Fault}
+use Rattle.uses.specs.declared.fault.Fault.TheVariants.{Description}
 use Rattle.uses.specs.declared.verdict.Verdict.{Verdict}
 use Rattle.uses.specs.Calls.{loaded, told, Call, load, advance, ask, trace, inside, Stand, Event}
 use Rattle.uses.specs.Uses.{Step, load_twice, load_wrong, load_full, loads, advance_empty, advance_settled}

@@ -4,13 +4,13 @@ use Rattle.std.proofs.lemmas.Bool.{cases_lt}
 use Rattle.store.specs.Meaning.{Shown}
 use Rattle.description.specs.Checks.{Checked, right}
 use Rattle.description.specs.declared.fault.Fault.{Fault as Misdescription}
-use Rattle.making.specs.declared.fault.Fault.{Fault}
 use Rattle.making.specs.Loads.{load_list, advance_list}
 use Rattle.runs.specs.Search.{Verdict, unsafe, safe, open_yet, Reached}
 use Rattle.runs.specs.Search as search
 use Rattle.runs.specs.Models.{Model, system, Describes}
 use Rattle.runs.proofs.Verdicts.{verdicts}
 use Rattle.runs.proofs.Traces as runs
+use Rattle.uses.specs.declared.fault.Fault.{Fault}
 use Rattle.uses.specs.declared.verdict.Verdict.{Verdict as Answer}
 use Rattle.uses.specs.Calls.{State, empty, loaded, load, advance, trace, inside, Stand, stand, Event}
 use Rattle.uses.specs.Uses.{Step, load_twice, load_wrong, load_full, loads, advance_empty, advance_settled}

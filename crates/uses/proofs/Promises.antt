@@ -5,7 +5,7 @@ use Rattle.std.proofs.lemmas.List.Elements.{All-nil, All-cons}
 use Rattle.store.specs.Meaning.{Shown, free}
 use Rattle.description.specs.Checks.{Checked, right}
 use Rattle.description.specs.declared.part.Part.{Part}
-use Rattle.making.specs.declared.fault.Fault.TheVariants as fault
+use Rattle.making.specs.declared.fault.Fault.TheVariants.{Room}
 use Rattle.making.specs.Making.{Item, Runs, Stops}
 use Rattle.making.specs.Loads.{load_list, advance_list}
 use Rattle.making.proofs.Bounds.{stops_bound, stops_above}
@@ -17,6 +17,7 @@ use Rattle.runs.specs.Models.{Model, system}
 use Rattle.runs.proofs.Verdicts.{verdicts}
 use Rattle.runs.proofs.Traces as runs
 use Rattle.uses.specs.Calls.{State, empty, loaded, tell, told, Call, load, advance, trace, Stand, Event, event}
+use Rattle.uses.specs.declared.fault.Fault.TheVariants.{Making}
 use Rattle.uses.specs.declared.verdict.Verdict.{Verdict}
 use Rattle.uses.specs.Uses.{Step, load_full, loads, advance_full, advances, traces, Use, begun, went_on}
 use Rattle.uses.specs.Fair.{load_bound, advance_bound, AllMade, ShortOf, Fair}
@@ -68,7 +69,7 @@ load_accepted (loads {a = a} {p = p} {m = m} k r) =
 
 load_room :
     {w v : Stand} {x a p : List ℕ} {q : Part} {l u : ℕ}
-    → Step w (load x a p (Err (fault.Room q l u))) v
+    → Step w (load x a p (Err (Making (Room q l u)))) v
     → (m : Model)
     × Checked w.store.vars x a p (Ok m)
     × ShortOf w.store v.store (load_list m) (load_bound m (length a) (length p)) q l u
@@ -87,7 +88,7 @@ advance_accepted (advances {m = m} {j = j} o r) =
 
 advance_room :
     {w v : Stand} {q : Part} {l u : ℕ}
-    → Step w (advance (Err (fault.Room q l u))) v
+    → Step w (advance (Err (Making (Room q l u)))) v
     → (m : Model) × (j : ℕ)
     × (w.state ≡ loaded m j)
     × ShortOf w.store v.store (advance_list m j) (advance_bound m) q l u

@@ -2,10 +2,11 @@
 use Rattle.std.specs.Prelude.{ℕ, Bool, true, false, List, ◌++◌, map, drop, count_by, Ok, Err, Result, is_ok}
 use Rattle.std.specs.List.{range_with_len}
 use Rattle.store.specs.Meaning.{Shown}
-use Rattle.making.specs.declared.fault.Fault.{Fault}
-use Rattle.making.specs.declared.fault.Fault.TheVariants as fault
+use Rattle.making.specs.declared.fault.Fault.TheVariants.{Room}
 use Rattle.runs.specs.Models.{Model, system}
 use Rattle.runs.specs.Search as search
+use Rattle.uses.specs.declared.fault.Fault.{Fault}
+use Rattle.uses.specs.declared.fault.Fault.TheVariants.{Making}
 use Rattle.uses.specs.declared.verdict.Verdict.{Verdict}
 use Rattle.uses.specs.declared.verdict.Verdict.TheVariants as verdict
 
@@ -69,7 +70,7 @@ is_advance (trace x y x' y' r) = false
 is_advance (inside q r) = false
 
 abbrev pub for_room : {X : Type 0} → Result X Fault → Bool
-for_room (Err (fault.Room part place units)) = true
+for_room (Err (Making (Room part place units))) = true
 for_room _ = false
 
 -- whether it was refused for room

@@ -1,7 +1,7 @@
 -- The rules fix each answer.
 use Rattle.std.specs.Prelude.{◌≡◌, ℕ, Bool, List, Result}
 use Rattle.store.specs.Meaning.{Shown}
-use Rattle.making.specs.declared.fault.Fault.{Fault}
+use Rattle.uses.specs.declared.fault.Fault.{Fault}
 use Rattle.uses.specs.declared.verdict.Verdict.{Verdict}
 use Rattle.uses.specs.Calls.{Call, load, advance, ask, trace, inside, Stand, Event}
 use Rattle.uses.specs.Uses.{Step, Use}

@@ -3,13 +3,14 @@ use Rattle.std.specs.Prelude.{◌≡◌, ℕ, suc, ◌+◌, ◌*◌, ◌<◌, �
 use Rattle.store.specs.Meaning.{Shown, Grown, free, price}
 use Rattle.description.specs.Checks.{Checked}
 use Rattle.description.specs.declared.part.Part.{Part}
-use Rattle.making.specs.declared.fault.Fault.{Fault}
-use Rattle.making.specs.declared.fault.Fault.TheVariants as fault
+use Rattle.making.specs.declared.fault.Fault.TheVariants.{Room}
 use Rattle.making.specs.Making.{Item, Runs, Stops, Held}
 use Rattle.making.specs.Loads.{load_list, advance_list}
 use Rattle.runs.specs.Models.{Model, system}
 use Rattle.runs.specs.Systems.{Breaking}
 use Rattle.runs.specs.Verdicts.{Unsafe}
+use Rattle.uses.specs.declared.fault.Fault.{Fault}
+use Rattle.uses.specs.declared.fault.Fault.TheVariants.{Making}
 use Rattle.uses.specs.declared.verdict.Verdict.{Verdict}
 use Rattle.uses.specs.Calls.{loaded, load, advance, trace, Event, is_load, is_advance, is_full}
 use Rattle.uses.specs.Uses.{Step}
@@ -63,7 +64,7 @@ pub record Fair (event : Event) : Type 0 where
       × AllMade event.before.store event.after.store (load_list m) (load_bound m (length a) (length p))
   pub load_room :
       (file a p : List ℕ) (part : Part) (place units : ℕ)
-      → event.call ≡ load file a p (Err (fault.Room part place units))
+      → event.call ≡ load file a p (Err (Making (Room part place units)))
       → (m : Model)
       × Checked event.before.store.vars file a p (Ok m)
       × ShortOf event.before.store event.after.store (load_list m) (load_bound m (length a) (length p)) part place units
@@ -76,7 +77,7 @@ pub record Fair (event : Event) : Type 0 where
       × AllMade event.before.store event.after.store (advance_list m j) (advance_bound m)
   pub advance_room :
       (part : Part) (place units : ℕ)
-      → event.call ≡ advance (Err (fault.Room part place units))
+      → event.call ≡ advance (Err (Making (Room part place units)))
       → (m : Model) × (j : ℕ)
       × (event.before.state ≡ loaded m j)
       × ShortOf event.before.store event.after.store (advance_list m j) (advance_bound m) part place units

@@ -1,11 +1,11 @@
 -- The rules leave no call without an answer.
 use Rattle.std.specs.Prelude.{◌≡◌, ℕ, Bool, ◌⊎◌, List, Result}
 use Rattle.store.specs.Meaning.{Shown}
-use Rattle.making.specs.declared.fault.Fault.{Fault}
 use Rattle.making.specs.Making.{Item, Runs, Stops}
 use Rattle.making.specs.Loads.{load_list, advance_list}
 use Rattle.runs.specs.Models.{Model, system, Describes}
 use Rattle.runs.specs.Search.{open_yet, verdict}
+use Rattle.uses.specs.declared.fault.Fault.{Fault}
 use Rattle.uses.specs.declared.verdict.Verdict.{Verdict}
 use Rattle.uses.specs.Calls.{empty, loaded, load, advance, ask, trace, inside, Stand, Event}
 use Rattle.uses.specs.Uses.{Step, Use}

@@ -3,20 +3,20 @@ use Rattle.std.specs.Prelude.{◌≡◌, ℕ, suc, ◌^◌, ◌<◌, ◌≤◌, 
 use Rattle.store.specs.Meaning.{Shown, free}
 use Rattle.description.specs.Checks.{Checked}
 use Rattle.description.specs.declared.fault.Fault.{Fault as Misdescription}
-use Rattle.making.specs.declared.fault.Fault.{Fault}
-use Rattle.making.specs.declared.fault.Fault.TheVariants as fault
 use Rattle.making.specs.Making.{Item, Runs, Stops}
 use Rattle.making.specs.Loads.{load_list, advance_list}
 use Rattle.making.specs.Ends.{located}
 use Rattle.runs.specs.Models.{Model, system}
 use Rattle.runs.specs.Search.{unsafe, safe, open_yet, verdict, Trace}
 use Rattle.runs.specs.Search as search
+use Rattle.uses.specs.declared.fault.Fault.{Fault}
+use Rattle.uses.specs.declared.fault.Fault.TheVariants as fault
 use Rattle.uses.specs.Calls.{State, empty, loaded, told, Call, load, advance, ask, trace, inside}
 use Rattle.uses.specs.Calls.{Stand, stand, Event, event, written}
 
 -- the refusal of a call of the list for room
 abbrev pub room : Item → Shown → Fault
-room item store = located item (free store)
+room item store = fault.Making (located item (free store))
 
 -- one call with its answer, and what it leaves; a and p are the texts, j the accepted advances
 pub data Step : Stand → Call → Stand → Type 0 where

@@ -5,6 +5,7 @@ ghost use Rattle.uses.specs.Promise.{Promised};
 ghost use Rattle.uses.specs.Determined.{Determined};
 ghost use Rattle.uses.specs.Possible.{Possible};
 
+pub mod fault;
 pub mod verdict;
 
 /// However a session is used, over whatever store: each call was a step by the rules, an accepted load or advance left

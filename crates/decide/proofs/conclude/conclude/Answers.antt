@@ -1,6 +1,6 @@
 use Rattle.std.proofs.Common.{◌≡◌, ℕ, Ok, Err, Result, sym, ap, ◌∙◌, subst}
 use Rattle.circuit.specs.declared.sizes.Sizes.{Sizes}
-use Rattle.making.specs.declared.fault.Fault.{Fault}
+use Rattle.uses.specs.declared.fault.Fault.{Fault}
 use Rattle.description.proofs.Checks.{never}
 use Rattle.engine.specs.Keeping.{world}
 use Rattle.decide.specs.declared.report.Report.TheVariants as report

@@ -1,6 +1,6 @@
 use mir.Val.{bool_byte}
 use Rattle.std.proofs.Common.{◌≡◌, ℕ, ◌+◌, ◌^◌, ◌<◌, ◌≤◌, Bool, true, false, cond, Ok, Err, Result, sym, refl, ap, ◌∙◌, subst, add-one, arith}
-use Rattle.making.specs.declared.fault.Fault.{Fault}
+use Rattle.uses.specs.declared.fault.Fault.{Fault}
 use Rattle.runs.specs.Models.{system}
 use Rattle.runs.specs.Search.{inside}
 use Rattle.description.proofs.Checks.{never}

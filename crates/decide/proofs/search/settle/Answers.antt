@@ -1,6 +1,6 @@
 use Rattle.std.proofs.Common.{◌≡◌, Ok, Err, Result, sym, ap, ◌∙◌, subst, add-one, arith}
 use Rattle.std.proofs.lemmas.Result.{err_from_is_err_and}
-use Rattle.making.specs.declared.fault.Fault.{Fault}
+use Rattle.uses.specs.declared.fault.Fault.{Fault}
 use Rattle.uses.specs.declared.verdict.Verdict.{Verdict}
 use Rattle.uses.proofs.Told.{never}
 use Rattle.engine.specs.Keeping.{world}

@@ -1,6 +1,7 @@
 use Rattle.std.proofs.Common.{◌≡◌, refl, sym, subst, ◌∙◌, arith}
 use Rattle.std.proofs.lemmas.Bool.{eqb-true}
 use Rattle.arrayvec.specs.ArrayVec.{array_vec_len}
+use Rattle.uses.specs.declared.fault.Fault.TheVariants.{Making}
 use Rattle.uses.specs.Calls.{advance}
 use Rattle.engine.specs.Keeping.{searching, Next}
 use Rattle.engine.proofs.Advances.{when_settled, when_many, when_full, when_done}
@@ -18,7 +19,7 @@ returns-then-is_full-clause-next g c =
 pub returns-in_err-stage-clause-next : goal.returns-in_err-stage-clause-next
 returns-in_err-stage-clause-next g c =
     let w = searching (g.S.Store.shows c.args.store.now) c.args.self.now in
-    subst (λ r. Next w (advance r) (searching (g.S.Store.shows c.step.new.store) c.args.self.now)) (sym (handed_on c.from_residual.result c.in_err-stage.field-0.0 c.from_residual.ensures.1))
+    subst (λ r. Next w (advance r) (searching (g.S.Store.shows c.step.new.store) c.args.self.now)) (sym (handed_on c.from_residual.result (Making c.in_err-stage.field-0.0) c.from_residual.ensures.1))
     (when_full w c.args.self.now refl c.in-Open.is (g.S.Store.shows c.step.new.store) c.in_err-stage.field-0.0 c.in_err-stage.ensures)
 
 pub returns-clause-next : goal.returns-clause-next

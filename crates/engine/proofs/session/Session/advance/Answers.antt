@@ -1,5 +1,5 @@
 use Rattle.std.specs.Borrow.{MutBor}
-use Rattle.making.specs.declared.fault.Fault.TheVariants.{Empty}
+use Rattle.uses.specs.declared.fault.Fault.TheVariants.{Empty}
 use Rattle.uses.specs.Uses.{advance_empty}
 use Rattle.engine.specs.declared.search.Search.{Search}
 use Rattle.engine.specs.Keeping.{world}

@@ -1,7 +1,7 @@
 use Rattle.std.proofs.Common.{◌≡◌, ◌<◌, ◌≤◌, not, Some, Ok, sym, subst}
 use Rattle.std.specs.Borrow.{Bor}
 use Rattle.store.specs.Meaning.{Shown}
-use Rattle.making.specs.declared.fault.Fault.TheVariants.{Empty}
+use Rattle.uses.specs.declared.fault.Fault.TheVariants.{Empty}
 use Rattle.uses.specs.Calls.{inside}
 use Rattle.uses.specs.Uses.{inside_empty}
 use Rattle.engine.specs.declared.search.Search.{Search}

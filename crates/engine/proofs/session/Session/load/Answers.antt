@@ -1,5 +1,5 @@
 use Rattle.std.proofs.Common.{sym, ◌∙◌}
-use Rattle.making.specs.declared.fault.Fault.TheVariants.{Description}
+use Rattle.uses.specs.declared.fault.Fault.TheVariants.{Description, Making}
 use Rattle.engine.specs.Keeping.{world}
 use Rattle.engine.proofs.Keepings.{is_there, not_there, handed_on}
 use Rattle.engine.proofs.Loads.{when_twice, when_wrong, when_full, when_done}
@@ -21,7 +21,7 @@ pub returns-in_err-built-clause-next : goal.returns-in_err-built-clause-next
 returns-in_err-built-clause-next g c =
     let w = world g.S.Store.shows c.args.self.now in
     let e = not_there c.args.self.now.search (sym c.is_some.ensures ∙ c.if-is_some.false) in
-    rw (handed_on c.from_residual-in_err-built.result c.in_err-built.field-0.0 c.from_residual-in_err-built.ensures.1)
+    rw (handed_on c.from_residual-in_err-built.result (Making c.in_err-built.field-0.0) c.from_residual-in_err-built.ensures.1)
     (when_full _ _ _ w e _ c.figures-width.ensures.same c.figures-width.result c.figures-width.ensures.told
     c.in_ok-described.described c.in_ok-described.ensures _ c.in_err-built.field-0.0 c.in_err-built.ensures)
 

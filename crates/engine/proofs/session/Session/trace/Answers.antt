@@ -1,7 +1,7 @@
 use Rattle.std.proofs.Common.{◌≡◌, ◌+◌, Some, Err, sym, subst, arith}
 use Rattle.std.specs.Borrow.{Bor}
 use Rattle.store.specs.Meaning.{Shown}
-use Rattle.making.specs.declared.fault.Fault.TheVariants as fault
+use Rattle.uses.specs.declared.fault.Fault.TheVariants as fault
 use Rattle.uses.specs.Calls.{trace}
 use Rattle.uses.specs.Uses.{trace_empty}
 use Rattle.engine.specs.declared.search.Search.{Search}
