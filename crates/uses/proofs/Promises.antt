@@ -1,5 +1,5 @@
 -- From a use of a session to what is promised of it.
-use Rattle.std.proofs.Common.{◌≡◌, ℕ, suc, ◌≤◌, List, All, length, get_or, Ok, Err, refl, ap}
+use Rattle.std.proofs.Common.{◌≡◌, ℕ, suc, ◌≤◌, List, ◌∷◌, All, length, get_or, Some, Ok, Err, sym, refl, ap}
 use Rattle.std.proofs.Common.{subst, mul-le-mul_right, arith}
 use Rattle.std.proofs.lemmas.List.Elements.{All-nil, All-cons}
 use Rattle.store.specs.Meaning.{Shown, free}
@@ -16,15 +16,18 @@ use Rattle.runs.specs.Verdicts.{Unsafe, Meaning}
 use Rattle.runs.specs.Models.{Model, system}
 use Rattle.runs.proofs.Verdicts.{verdicts}
 use Rattle.runs.proofs.Traces as runs
-use Rattle.uses.specs.Calls.{State, empty, loaded, tell, told, Call, load, advance, trace, Stand, Event, event}
 use Rattle.uses.specs.declared.fault.Fault.TheVariants.{Making}
+use Rattle.uses.specs.Calls.{State, empty, loaded, tell, told, Call, load, advance, trace, answered}
+use Rattle.uses.specs.Calls.{Stand, Event, event}
 use Rattle.uses.specs.declared.verdict.Verdict.{Verdict}
-use Rattle.uses.specs.Uses.{Step, load_full, loads, advance_full, advances, traces, Use, begun, went_on}
+use Rattle.uses.specs.Uses.{Step, load_twice, load_wrong, load_full, loads, advance_empty, advance_settled}
+use Rattle.uses.specs.Uses.{advance_full, advances, asks, trace_empty, trace_verdict, trace_short, traces}
+use Rattle.uses.specs.Uses.{inside_empty, inside_verdict, inside_state, insides, Use, begun, went_on}
 use Rattle.uses.specs.Fair.{load_bound, advance_bound, AllMade, ShortOf, Fair}
-use Rattle.uses.specs.Says.{Meant, Says}
+use Rattle.uses.specs.Says.{Meant, Says, Accepted}
 use Rattle.uses.specs.Promise.{Promised}
-use Rattle.uses.proofs.Told.{tell_safe, tell_open, tell_unsafe}
 use Rattle.claim.proofs.Lengths.{read_operators}
+use Rattle.uses.proofs.Told.{never, tell_not_empty, tell_safe, tell_open, tell_unsafe}
 use Rattle.uses.proofs.Written.{written_at, breaking_like}
 use Rattle.uses.proofs.Unchanged.{same_but, same_arrays}
 use Rattle.uses.proofs.Uses.{closed, step_grown, Come, come}
@@ -112,12 +115,54 @@ traced s h g (traces {m = m} {j = j} {x = x} {y = y} q v o lx ly d) = (
       ((runs.traces (system m) (closed m) j g.reached o).breaking q v d),
 )
 
-fair_step : (s : Shown) (h : List Event) {w v : Stand} {c : Call} → Step w c v → Come s h w.state → Fair (event w c v)
-fair_step s h {w = w} {v = v} k g = record {
+meant : (m : Model) (j : ℕ) → Meaning (system m) j → Meant m j (told (loaded m j))
+meant m j y = record {
+  not_empty = tell_not_empty (search.verdict (system m) j);
+  safely = λ e. y.safely (tell_safe (search.verdict (system m) j) e);
+  unsafely = λ d e. y.unsafely d (tell_unsafe (search.verdict (system m) j) d e);
+  exactly = λ f. ap tell (y.exactly f);
+  openly = λ e. y.openly (tell_open (search.verdict (system m) j) e);
+}
+
+says : (s : Shown) (h : List Event) (st : State) → Come s h st → Says st (told st)
+says s h empty g = refl
+says s h (loaded m j) g = meant m j (verdicts (system m) (closed m) j g.reached)
+
+same_answer : {a b : Verdict} → Some a ≡ Some b → a ≡ b
+same_answer e = cc
+
+-- what a call answers is the verdict of the state that it leaves
+told_after : {w v : Stand} {c : Call} {a : Verdict} → Step w c v → answered c ≡ Some a → told v.state ≡ a
+told_after load_twice e = never (cc)
+told_after (load_wrong k) e = never (cc)
+told_after (load_full k q) e = never (cc)
+told_after (loads k r) e = same_answer e
+told_after advance_empty e = never (cc)
+told_after (advance_settled n) e = never (cc)
+told_after (advance_full o q) e = never (cc)
+told_after (advances o r) e = same_answer e
+told_after asks e = same_answer e
+told_after trace_empty e = never (cc)
+told_after (trace_verdict n) e = never (cc)
+told_after (trace_short o n) e = never (cc)
+told_after (traces q v o lx ly d) e = never (cc)
+told_after inside_empty e = never (cc)
+told_after (inside_verdict n) e = never (cc)
+told_after (inside_state o l) e = never (cc)
+told_after (insides o l) e = never (cc)
+
+fair_step :
+    (s : Shown) (h : List Event) {w v : Stand} {c : Call}
+    → Step w c v
+    → Come s h w.state
+    → Come s (event w c v ∷ h) v.state
+    → Fair (event w c v)
+fair_step s h {w = w} {v = v} {c = c} k g g' = record {
   step = k;
   grown = step_grown k;
   same_state = λ l a. (same_but k l a).0;
   same_store = λ l a. (same_but k l a).1;
+  says = λ r e. subst (Says v.state) (told_after k e) (says s (event w c v ∷ h) v.state g');
   load_accepted = λ x a p r e. load_accepted (subst (λ i. Step w i v) e k);
   load_room = λ x a p q l u e. load_room (subst (λ i. Step w i v) e k);
   advance_accepted = λ r e. advance_accepted (subst (λ i. Step w i v) e k);
@@ -128,19 +173,16 @@ fair_step s h {w = w} {v = v} k g = record {
 
 fair : {s : Shown} {h : List Event} {w : Stand} → Use s h w → All Fair h
 fair begun = All-nil Fair
-fair {s = s} (went_on {history = h} u k) = All-cons Fair _ h (fair_step s h k (come u)) (fair u)
+fair {s = s} (went_on {history = h} u k) =
+    All-cons Fair _ h (fair_step s h k (come u) (come (went_on u k))) (fair u)
 
-meant : (m : Model) (j : ℕ) → Meaning (system m) j → Meant m j (told (loaded m j))
-meant m j y = record {
-  safely = λ e. y.safely (tell_safe (search.verdict (system m) j) e);
-  unsafely = λ d e. y.unsafely d (tell_unsafe (search.verdict (system m) j) d e);
-  exactly = λ f. ap tell (y.exactly f);
-  openly = λ e. y.openly (tell_open (search.verdict (system m) j) e);
-}
-
-says : (s : Shown) (h : List Event) (st : State) → Come s h st → Says s h st (told st)
-says s h empty g = (g.loads_are, refl)
-says s h (loaded m j) g = (g.loaded_by, g.advances_are, meant m j (verdicts (system m) (closed m) j g.reached))
+accepted : (s : Shown) (h : List Event) (st : State) → Come s h st → Accepted s h st
+accepted s h empty g = (g.loads_are, g.advances_are)
+accepted s h (loaded m j) g = (g.loaded_by, sym g.advances_are)
 
 pub promised : Promised
-promised s h w u = record { fair = fair u; says = says s h w.state (come u) }
+promised s h w u = record {
+  fair = fair u;
+  accepted = accepted s h w.state (come u);
+  says = says s h w.state (come u);
+}

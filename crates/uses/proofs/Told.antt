@@ -1,11 +1,16 @@
 -- What the told verdict says of the search's.
-use Rattle.std.proofs.Common.{◌≡◌, ℕ, refl, ap, arith}
+use Rattle.std.proofs.Common.{◌≡◌, ◌≢◌, ℕ, refl, ap, arith}
 use Rattle.runs.specs.Search.{Verdict, unsafe, safe, open_yet}
 use Rattle.uses.specs.declared.verdict.Verdict.TheVariants as verdict
 use Rattle.uses.specs.Calls.{tell}
 
 pub never : {X : Type 0} → ◌≡◌ {A = ℕ} 0 1 → X
 never e = absurd (omega arith)
+
+pub tell_not_empty : (v : Verdict) → tell v ≢ verdict.Empty
+tell_not_empty (unsafe d) e = never (cc)
+tell_not_empty safe e = never (cc)
+tell_not_empty open_yet e = never (cc)
 
 pub tell_safe : (v : Verdict) → tell v ≡ verdict.Safe → v ≡ safe
 tell_safe (unsafe d) e = never (cc)

@@ -1,5 +1,7 @@
 -- The five calls of a session with their arguments and answers, and what stands before and after each.
 use Rattle.std.specs.Prelude.{ℕ, Bool, true, false, List, ◌++◌, map, drop, count_by, Ok, Err, Result, is_ok}
+use Rattle.std.specs.Prelude.{Option, Some, None}
+use Rattle.std.specs.Result.{result_ok}
 use Rattle.std.specs.List.{range_with_len}
 use Rattle.store.specs.Meaning.{Shown}
 use Rattle.making.specs.declared.fault.Fault.TheVariants.{Room}
@@ -52,6 +54,14 @@ event w c v = record { before = w; call = c; after = v }
 -- xs with f 0 to f (n - 1) written over its start
 abbrev pub written : ℕ → (ℕ → ℕ) → List ℕ → List ℕ
 written n f xs = map f (range_with_len 0 n) ++ drop n xs
+
+-- the verdict that the call answered, if it did
+abbrev pub answered : Call → Option Verdict
+answered (load file a p r) = result_ok r
+answered (advance r) = result_ok r
+answered (ask r) = Some r
+answered (trace x y x' y' r) = None
+answered (inside q r) = None
 
 -- whether the call was an accepted load
 abbrev pub is_load : Call → Bool

@@ -1,5 +1,5 @@
 -- What one call of a use was.
-use Rattle.std.specs.Prelude.{◌≡◌, ℕ, suc, ◌+◌, ◌*◌, ◌<◌, ◌≤◌, false, List, length, Ok, Err, slice_index}
+use Rattle.std.specs.Prelude.{◌≡◌, ℕ, suc, ◌+◌, ◌*◌, ◌<◌, ◌≤◌, false, List, length, Some, Ok, Err, slice_index}
 use Rattle.store.specs.Meaning.{Shown, Grown, free, price}
 use Rattle.description.specs.Checks.{Checked}
 use Rattle.description.specs.declared.part.Part.{Part}
@@ -12,8 +12,9 @@ use Rattle.runs.specs.Verdicts.{Unsafe}
 use Rattle.uses.specs.declared.fault.Fault.{Fault}
 use Rattle.uses.specs.declared.fault.Fault.TheVariants.{Making}
 use Rattle.uses.specs.declared.verdict.Verdict.{Verdict}
-use Rattle.uses.specs.Calls.{loaded, load, advance, trace, Event, is_load, is_advance, is_full}
+use Rattle.uses.specs.Calls.{loaded, load, advance, trace, Event, answered, is_load, is_advance, is_full}
 use Rattle.uses.specs.Uses.{Step}
+use Rattle.uses.specs.Says.{Says}
 
 -- how many making calls a load and an advance take at most, a and p the lengths of the texts
 abbrev pub load_bound : Model → ℕ → ℕ → ℕ
@@ -54,6 +55,8 @@ pub record Fair (event : Event) : Type 0 where
       → is_advance event.call ≡ false
       → is_full event.call ≡ false
       → event.after.store ≡ event.before.store
+  -- a verdict that it answers means what it says
+  pub says : (answer : Verdict) → answered event.call ≡ Some answer → Says event.after.state answer
   -- the list of an accepted load or advance was made, and that of one refused for room was not
   pub load_accepted :
       (file a p : List ℕ) (answer : Verdict)

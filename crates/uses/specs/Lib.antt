@@ -1,8 +1,8 @@
 pub mod Faults
 pub mod Calls
 pub mod Uses
-pub mod Promise
-pub mod Fair
 pub mod Says
+pub mod Fair
+pub mod Promise
 pub mod Determined
 pub mod Possible

@@ -5,12 +5,14 @@ use Rattle.uses.specs.declared.verdict.Verdict.{Verdict}
 use Rattle.uses.specs.Calls.{State, told, Stand, Event}
 use Rattle.uses.specs.Uses.{Use}
 use Rattle.uses.specs.Fair.{Fair}
-use Rattle.uses.specs.Says.{Says}
+use Rattle.uses.specs.Says.{Says, Accepted}
 
--- every call was fair, and the verdict at the end means what it says
+-- every call was fair, the circuit and the claims are those of the one accepted load,
+-- and the verdict means what it says
 pub record Promise (start : Shown) (history : List Event) (state : State) (answer : Verdict) : Type 0 where
   pub fair : All Fair history
-  pub says : Says start history state answer
+  pub accepted : Accepted start history state
+  pub says : Says state answer
 
 abbrev pub Promised : Type 0
 Promised =
