@@ -20,7 +20,13 @@ fold o (disj p t u) = o.either p (fold o t) (fold o u)
 
 -- truth values, with the truth of each name
 abbrev pub logic : (Sort → ℕ → Bool) → Ops Bool
-logic v = record { constant = λ p b. b; name = λ p s n. v s n; negate = λ p a. not a; both = λ p a b. a && b; either = λ p a b. a || b }
+logic v = record {
+  constant = λ p b. b;
+  name = λ p s n. v s n;
+  negate = λ p a. not a;
+  both = λ p a b. a && b;
+  either = λ p a b. a || b;
+}
 
 abbrev pub truth : (Sort → ℕ → Bool) → Tree → Bool
 truth v t = fold (logic v) t

@@ -67,7 +67,8 @@ fn is_digit(byte: u8) -> bool
 // How many bytes at the front of the text pass a test.
 fn leading<F: Fn(u8) -> bool>(text: &[u8], test: F) -> usize
     requires { F.IsAlwaysCallable test }
-    ensures count { (passes : ℕ → Bool) → ((byte : ℕ) (r : Bool) → F.post test byte r → r ≡ passes byte) → result ≡ prefix_len passes text.now }
+    ensures count { (passes : ℕ → Bool) → ((byte : ℕ) (r : Bool) → F.post test byte r → r ≡ passes byte)
+        → result ≡ prefix_len passes text.now }
     ensures within { result ≤ length text.now }
 {
     text.iter().take_while(|byte| test(**byte)).count()

@@ -50,7 +50,9 @@ impl Depth {
 
     // One more, by this token.
     fn deeper(self, opener: Lexeme<'_>) -> Result<Self, Fault>
-        ensures { MatchResult result (λ d. d.opened ≡ self.opened + 1) (λ f. (f ≡ Fault.Deep opener.entry.place) × (self.opened ≡ DEEPEST)) }
+        ensures { MatchResult result
+            (λ d. d.opened ≡ self.opened + 1)
+            (λ f. (f ≡ Fault.Deep opener.entry.place) × (self.opened ≡ DEEPEST)) }
     {
         if self.opened < DEEPEST {
             Ok(Depth {
@@ -110,7 +112,9 @@ impl<'a> Reader<'a> {
 
     fn name(&mut self, sort: Sort, digits: &[u8]) -> Result<(), Fault>
         requires { kind_of self.old.ahead.token ≡ name sort digits.now }
-        ensures { (d : ℕ) → MatchResult result (λ _. Taken factor d self.old self.new) (λ f. Stopped factor d self.old self.new f) }
+        ensures { (d : ℕ) → MatchResult result
+            (λ _. Taken factor d self.old self.new)
+            (λ f. Stopped factor d self.old self.new f) }
     {
         let n = number_below(digits, self.sizes.of(sort)).ok_or(Fault::Name(self.ahead.place))?;
         self.atom(Act::Name(sort, n));
@@ -119,7 +123,9 @@ impl<'a> Reader<'a> {
 
     // Passes the `)` that has to be ahead.
     fn close(&mut self) -> Result<(), Fault>
-        ensures { MatchResult result (λ _. Reach self.old self.new (tok self.old.ahead.place rparen ∷ []) []) (λ f. (f ≡ Fault.Claim self.old.ahead.place) × (self.old.ahead.token ≢ Close) × (self.new ≡ self.old)) }
+        ensures { MatchResult result
+            (λ _. Reach self.old self.new (tok self.old.ahead.place rparen ∷ []) [])
+            (λ f. (f ≡ Fault.Claim self.old.ahead.place) × (self.old.ahead.token ≢ Close) × (self.new ≡ self.old)) }
     {
         let Token::Close = self.ahead.token else {
             return Err(Fault::Claim(self.ahead.place));
@@ -128,10 +134,13 @@ impl<'a> Reader<'a> {
         Ok(())
     }
 
-    // Two loops: of one that takes the inner reader, `joined-requires` stayed open: in a cycle it is not always callable.
+    // Two loops: of one that takes the inner reader, `joined-requires` stayed open:
+    // in a cycle it is not always callable.
     #[cycle(claim_factor_term)]
     pub(crate) fn claim(&mut self, depth: Depth) -> Result<(), Fault>
-        ensures { MatchResult result (λ _. Taken claim depth.opened self.old self.new) (λ f. Stopped claim depth.opened self.old self.new f) }
+        ensures { MatchResult result
+            (λ _. Taken claim depth.opened self.old self.new)
+            (λ f. Stopped claim depth.opened self.old self.new f) }
     {
         self.term(depth)?;
         while let Token::Or = self.ahead.token {
@@ -145,7 +154,9 @@ impl<'a> Reader<'a> {
 
     #[cycle(claim_factor_term)]
     fn term(&mut self, depth: Depth) -> Result<(), Fault>
-        ensures { MatchResult result (λ _. Taken term depth.opened self.old self.new) (λ f. Stopped term depth.opened self.old self.new f) }
+        ensures { MatchResult result
+            (λ _. Taken term depth.opened self.old self.new)
+            (λ f. Stopped term depth.opened self.old self.new f) }
     {
         self.factor(depth)?;
         while let Token::And = self.ahead.token {
@@ -159,7 +170,9 @@ impl<'a> Reader<'a> {
 
     #[cycle(claim_factor_term)]
     fn factor(&mut self, depth: Depth) -> Result<(), Fault>
-        ensures { MatchResult result (λ _. Taken factor depth.opened self.old self.new) (λ f. Stopped factor depth.opened self.old self.new f) }
+        ensures { MatchResult result
+            (λ _. Taken factor depth.opened self.old self.new)
+            (λ f. Stopped factor depth.opened self.old self.new f) }
     {
         let place = self.ahead.place;
         match self.ahead.token {
