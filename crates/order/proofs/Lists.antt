@@ -10,6 +10,7 @@ use Rattle.std.proofs.lemmas.Bool.{cases_eq, eq-eqb, ne_eqb, lt-ltb, le-ltb, cas
 use Rattle.std.proofs.lemmas.Bool.Decides.{Decides-below_and, Decides-eqb, Decides-and, nat_tests}
 use Rattle.store.specs.Fun.{each}
 use Rattle.order.specs.Listing.{times, is_order, order_of, place, Fits}
+use Rattle.order.specs.Facts.{Permutes}
 
 -- what the test tells
 pub is_order_tells : (n : ℕ) (xs : List ℕ) → Decides (is_order n xs) ((length xs ≡ n) × ((j : ℕ) → j < n → times j xs ≡ 1))
@@ -32,12 +33,6 @@ short n xs e h l = omega (arith, ((is_order_tells n xs).0 e).0)
 -- an order is one of as many variables as it is long
 pub order_itself : (n : ℕ) (xs ys : List ℕ) → is_order n xs ≡ true → ys ≡ xs → is_order (length ys) ys ≡ true
 order_itself n xs ys e h = subst (λ (zs : List ℕ). is_order (length zs) zs ≡ true) (sym h) (ap (λ k. is_order k xs) ((is_order_tells n xs).0 e).0 ∙ e)
-
--- p takes each number below n once
-pub record Permutes (n : ℕ) (p : ℕ → ℕ) : Type 0 where
-  pub within : (i : ℕ) → i < n → p i < n
-  pub once : (i j : ℕ) → i < n → j < n → p i ≡ p j → i ≡ j
-  pub each : (j : ℕ) → j < n → (i : ℕ) × ((i < n) × (p i ≡ j))
 
 -- the first entry of a list, counted
 times_cons : (j x : ℕ) (xs : List ℕ) → times j (x ∷ xs) ≡ cond (eqb x j) 1 0 + times j xs

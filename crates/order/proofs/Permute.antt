@@ -5,9 +5,8 @@ use Rattle.std.specs.List.{range_with_len, fold, zip}
 use Rattle.store.specs.Fun.{Fn, bit, fixed, fix, Same}
 use Rattle.store.proofs.Bit.{bit_fixed_same, bit_fixed_other, fixed_lt}
 use Rattle.order.specs.Renaming.{placed, taken, above, below}
-use Rattle.order.specs.Facts.{StandsFor}
+use Rattle.order.specs.Facts.{Permutes, Places, StandsFor}
 use Rattle.order.proofs.Bits.{bit_ext, fixed_ge}
-use Rattle.order.proofs.Lists.{Permutes}
 
 -- what `with_bit` answers
 abbrev pub put : ℕ → Bool → ℕ → ℕ
@@ -73,8 +72,15 @@ module _ (n : ℕ) (p : ℕ → ℕ) (o : Permutes n p) where
   placed_is : (w v : ℕ) → w < 2 ^ n → v < 2 ^ n → ((i : ℕ) → i < n → bit i w ≡ bit (p i) v) → placed p n w ≡ v
   placed_is w v h l e = bits_below (placed p n w) v (placed_lt n w (omega arith) h) l (λ i m. bit_placed n i w (omega arith) m ∙ e i m)
 
+  -- each valuation is one below, and each below is one above
+  pub places_placed : (w : ℕ) → Places n p w (placed p n w)
+  places_placed w i l = sym (bit_placed n i w (omega arith) l)
+
+  pub places_taken : (v : ℕ) → Places n p (taken p n v) v
+  places_taken v i l = bit_taken p n i v l
+
   placed_taken : (v : ℕ) → v < 2 ^ n → placed p n (taken p n v) ≡ v
-  placed_taken v h = placed_is (taken p n v) v (taken_lt p n n v (omega arith) h) h (λ i l. bit_taken p n i v l)
+  placed_taken v h = placed_is (taken p n v) v (taken_lt p n n v (omega arith) h) h (places_taken v)
 
   pub above_stands : (g : Fn) → StandsFor n p (above p n g) g
   above_stands g w v h l e = ap g (placed_is w v h l e)
@@ -84,10 +90,10 @@ module _ (n : ℕ) (p : ℕ → ℕ) (o : Permutes n p) where
 
   -- what stands for g is g as it stands above
   pub stands_above : (f g : Fn) → StandsFor n p f g → Same n f (above p n g)
-  stands_above f g s w h = s w (placed p n w) h (placed_lt n w (omega arith) h) (λ i l. sym (bit_placed n i w (omega arith) l))
+  stands_above f g s w h = s w (placed p n w) h (placed_lt n w (omega arith) h) (places_placed w)
 
   pub stands_below : (f g : Fn) → StandsFor n p f g → Same n (below p n f) g
-  stands_below f g s v h = s (taken p n v) v (taken_lt p n n v (omega arith) h) h (λ i l. bit_taken p n i v l)
+  stands_below f g s v h = s (taken p n v) v (taken_lt p n n v (omega arith) h) h (places_taken v)
 
   pub above_same : (f g : Fn) → Same n f g → Same n (above p n f) (above p n g)
   above_same f g e w h = e (placed p n w) (placed_lt n w (omega arith) h)

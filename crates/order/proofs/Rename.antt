@@ -1,5 +1,5 @@
 -- What a store shows under an order is lawful, and its answers are those of the store below.
-use Rattle.std.proofs.Common.{◌≡◌, ℕ, ◌+◌, ◌<◌, ◌≤◌, Bool, true, List, Ok, Err, Result, sym, ap, ◌∙◌, subst, ap₂, arith}
+use Rattle.std.proofs.Common.{◌≡◌, ℕ, ◌+◌, ◌<◌, ◌≤◌, Bool, true, List, Ok, Err, Result, refl, sym, ap, ◌∙◌, subst, ap₂, arith}
 use mathlib.Core.Path.{fun_ext}
 use Rattle.std.proofs.lemmas.Bool.Decides.{same_from_decides, Decides-like}
 use Rattle.store.specs.declared.refusal.Refusal.{Refusal}
@@ -9,10 +9,10 @@ use Rattle.store.specs.Meaning.{Shown, Lawful, holds, price, free}
 use Rattle.store.specs.Calls.{Answers, Reply}
 use Rattle.store.proofs.Same.{holds_tells, holds_like, same_sym, same_trans}
 use Rattle.order.specs.Listing.{order_of}
-use Rattle.order.specs.Renaming.{taken, above, below, lifted, renamed, ordered}
-use Rattle.order.specs.Facts.{StandsFor, Reorders}
-use Rattle.order.proofs.Lists.{Permutes, permutes_order}
-use Rattle.order.proofs.Permute.{above_same, above_back, above_stands, below_stands, stands_above, stands_below, taken_lt}
+use Rattle.order.specs.Renaming.{placed, taken, above, below, lifted, renamed, ordered}
+use Rattle.order.specs.Facts.{Permutes, StandsFor, Reorders}
+use Rattle.order.proofs.Lists.{permutes_order}
+use Rattle.order.proofs.Permute.{above_same, above_back, above_stands, below_stands, stands_above, stands_below, placed_lt, places_placed, places_taken, taken_lt}
 
 module _ (p : ℕ → ℕ) (s : Shown) (o : Permutes s.vars p) where
   holds_above : (g : Fn) → holds (renamed p s) (above p s.vars g) ≡ holds s g
@@ -50,10 +50,18 @@ module _ (p : ℕ → ℕ) (s : Shown) (o : Permutes s.vars p) where
   pub reorders : Lawful s → Reorders p s (renamed p s)
   reorders l = record {
     lawful = lawful_renamed l;
-    variable = λ i h w v _ _ e. e i h;
+    order = o;
+    vars = refl;
+    held = λ a. refl;
+    used = refl;
+    capacity = refl;
+    top = refl;
     value = λ a. above_stands s.vars p o (s.value a);
-    every = λ f. (below p s.vars f, below_stands s.vars p o f);
     price = price_as l;
+    placed = λ w h. (placed p s.vars w, (placed_lt s.vars p o s.vars w (omega arith) h, places_placed s.vars p o w));
+    taken = λ v h. (taken p s.vars v, (taken_lt p s.vars s.vars v (omega arith) h, places_taken s.vars p o v));
+    below = λ f. (below p s.vars f, below_stands s.vars p o f);
+    above = λ g. (above p s.vars g, above_stands s.vars p o g);
   }
 
 -- the store under the order that a list gives

@@ -5,6 +5,8 @@ ghost use Rattle.std.specs.Prelude.{◌≡◌};
 ghost use Rattle.order.specs.Listing.{is_order, order_of, verdict, Fits};
 ghost use Rattle.order.specs.Renaming.{ordered};
 ghost use Rattle.order.specs.Facts.{Reorders};
+ghost use Rattle.order.specs.Below.{AnswersAsBelow, TellsAsBelow};
+ghost use Rattle.store.specs.Calls.{Makes, TellsValue, TellsFigures};
 
 mod order;
 
@@ -35,10 +37,14 @@ pub fn check<S: Store>(store: &mut S, p: &[u8]) -> Result<(), Unfit>
 }
 
 impl<S: Store> Layer<S> {
-    // The store under the order p; under the order of its variables, where p is none.
+    ghost use Rattle.order.specs.Layers.{below, order, above};
+
+    /// The store under the order p; under the order of its variables, where p is none.
     pub fn new(mut store: S, p: &[u8]) -> Layer<S>
-        ensures shows { ordered result.order.places.items (S.Store.shows result.store) ≡ ordered p.now (S.Store.shows store) }
-        ensures reorders { Reorders (order_of (S.Store.shows store).vars p.now) (S.Store.shows store) (ordered p.now (S.Store.shows store)) }
+        ensures below { below result ≡ S.Store.shows store }
+        ensures order { order result ≡ order_of (S.Store.shows store).vars p.now }
+        ensures reorders { Reorders (order result) (below result) (above result) }
+        ensures shows { above result ≡ ordered p.now (S.Store.shows store) }
     {
         let n = store.figures().variables;
         let order = Order::of(n, p).unwrap_or_default();
@@ -47,17 +53,32 @@ impl<S: Store> Layer<S> {
 }
 
 impl<S: Store> Store for Layer<S> {
-    ghost shows = { λ l. ordered l.order.places.items (S.Store.shows l.store) };
+    ghost use Rattle.order.specs.Layers.{below, order, above};
 
-    fn answer(&mut self, task: Task) -> Result<u16, Refusal> {
+    ghost shows = { λ l. above l };
+
+    fn answer(&mut self, task: Task) -> Result<u16, Refusal>
+        ensures told { Makes (above self.old) task result (above self.new) }
+        ensures below { AnswersAsBelow (order self.old) (below self.old) task result (below self.new) }
+        ensures order { order self.new ≡ order self.old }
+        ensures reorders { Reorders (order self.new) (below self.new) (above self.new) }
+    {
         self.store.answer(self.order.task_below(task))
     }
 
-    fn value(&mut self, a: u16, w: u32) -> Result<bool, Refusal> {
+    fn value(&mut self, a: u16, w: u32) -> Result<bool, Refusal>
+        ensures same { above self.new ≡ above self.old }
+        ensures told { TellsValue (above self.old) a w result }
+        ensures below { TellsAsBelow (order self.old) (below self.old) a w result }
+    {
         self.store.value(a, self.order.valuation_below(w))
     }
 
-    fn figures(&mut self) -> Figures {
+    fn figures(&mut self) -> Figures
+        ensures same { above self.new ≡ above self.old }
+        ensures told { TellsFigures (above self.old) result }
+        ensures below { TellsFigures (below self.old) result }
+    {
         self.store.figures()
     }
 }

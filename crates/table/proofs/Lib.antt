@@ -1,4 +1,5 @@
 mod Lawful
 mod Made
+mod Records
 mod Sound
 mod Tables

@@ -7,7 +7,7 @@ use Rattle.std.specs.Bool.{MatchBool, then_some}
 use Rattle.std.specs.Fn.{Called}
 use Rattle.std.specs.List.{range_with_len, AllWithin, HoldsAt}
 use Rattle.std.proofs.lemmas.List.FromFn.{length-range_with_len, get_or-range_with_len, get_or-map-range_with_len}
-use Rattle.std.proofs.lemmas.Bool.{cases_Bool, cases_lt, ltb-true, lt-ltb}
+use Rattle.std.proofs.lemmas.Bool.{cases_Bool, cases_lt, ltb-true, lt-ltb, le-ltb}
 use Rattle.std.proofs.lemmas.Nat.{pow_pos}
 use denote.Param.Members.{Mut}
 use Rattle.store.specs.Fun.{Fn, bit, Same}
@@ -55,15 +55,24 @@ bit_packed (suc m) w (suc k) g h =
     let e : suc w + k ≡ w + suc k = omega arith in
     ap (bit k) (other_bits (g w) (packed m (suc w) g)) ∙ bit_packed m (suc w) k g (omega arith) ∙ ap g e
 
--- a function below 2^n is its table's
-pub truth_table : (n : ℕ) (f : Fn) → n ≤ 10 → Same n (truth (table n f)) f
+-- the bits of the table of f
+bit_table : (n : ℕ) (f : Fn) (w : ℕ) → w < 8 * 128 → truth (table n f) w ≡ within n f w
 unfolding packed_truths
-truth_table n f few w h =
-    let p : 2 ^ n ≤ 2 ^ 10 = pow_mono few in
+bit_table n f w h =
     let low : w / 8 < 128 = omega arith in
     let e : 8 * (w / 8) + w % 8 ≡ w = omega arith in
     ap (bit (w % 8)) (get_or-map-range_with_len (λ j. packed 8 (8 * j) (within n f)) 0 128 (w / 8) (w / 8) 0 low (omega arith))
-    ∙ bit_packed 8 (8 * (w / 8)) (w % 8) (within n f) (omega arith) ∙ ap (within n f) e ∙ rw (lt-ltb w (2 ^ n) h) refl
+    ∙ bit_packed 8 (8 * (w / 8)) (w % 8) (within n f) (omega arith) ∙ ap (within n f) e
+
+-- a function below 2^n is its table's
+pub truth_table : (n : ℕ) (f : Fn) → n ≤ 10 → Same n (truth (table n f)) f
+truth_table n f few w h =
+    let p : 2 ^ n ≤ 2 ^ 10 = pow_mono few in
+    bit_table n f w (omega arith) ∙ rw (lt-ltb w (2 ^ n) h) refl
+
+-- and from 2^n on its bits are 0
+pub table_past : (n : ℕ) (f : Fn) (w : ℕ) → 2 ^ n ≤ w → w < 8 * 128 → truth (table n f) w ≡ false
+table_past n f w h low = bit_table n f w low ∙ rw (le-ltb w (2 ^ n) h) refl
 
 within_same : (n : ℕ) (f g : Fn) → Same n f g → within n f ≡ within n g
 within_same n f g e = fun_ext (λ w. ⊎_elim

@@ -1,3 +1,4 @@
+pub mod Records
 pub mod Tables
 pub mod Shows
 pub mod Identity

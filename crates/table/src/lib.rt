@@ -2,11 +2,13 @@
 #![tactic(auto)]
 
 ghost use Rattle.std.specs.Prelude.{◌≡◌, ◌≤◌, true, [], length, if◌then◌else◌};
+ghost use Rattle.std.specs.Option.{option_map};
 ghost use Rattle.records.specs.Contents.{entries, room};
 ghost use Rattle.store.specs.Fitting.{fitting};
 ghost use Rattle.store.specs.declared.fitting.TheConstants.{MOST_RECORDS};
 ghost use Rattle.store.specs.Meaning.{Fresh, Lawful};
 ghost use Rattle.table.specs.declared.TheConstants.{MOST};
+ghost use Rattle.table.specs.Records.{RecordOf, record_at};
 ghost use Rattle.table.specs.Shows.{shown, showing, sound, suits};
 
 mod making;
@@ -55,6 +57,15 @@ impl<'a> Table<'a> {
             n,
             list: List::new(records, links),
         }
+    }
+
+    /// The record of the function under a number. A constant has none, nor has a number that is not held.
+    pub fn record(&self, a: u16) -> Option<&Truths>
+        ensures told { RecordOf (showing self.now.n self.now.list) a (option_map (λ x. x.now) result) }
+        ensures place { option_map (λ x. x.now) result ≡ record_at (entries self.now.list) a }
+    {
+        let place = usize::from(a).checked_sub(2)?;
+        self.list.get(place)
     }
 }
 

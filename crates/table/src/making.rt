@@ -21,7 +21,7 @@ impl Table<'_> {
         if a < 2 {
             return a == 1;
         }
-        self.list.get(usize::from(a) - 2).is_some_and(|t| t.at(w))
+        self.record(a).is_some_and(|t| t.at(w))
     }
 
     // The table of what the task asks for.

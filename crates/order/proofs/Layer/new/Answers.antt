@@ -1,7 +1,9 @@
-use Rattle.std.proofs.Common.{◌∙◌, ap, sym}
-use Rattle.order.specs.Renaming.{ordered}
+use Rattle.std.proofs.Common.{◌≡◌, ◌∙◌, ap, sym, subst}
+use Rattle.store.specs.Meaning.{Lawful}
+use Rattle.order.specs.Listing.{order_of}
+use Rattle.order.specs.Renaming.{renamed, ordered}
 use Rattle.order.proofs.Lists.{permutes_order}
-use Rattle.order.proofs.Calls.{order_or_none, order_fits}
+use Rattle.order.proofs.Calls.{order_found, order_fits}
 use Rattle.order.proofs.Rename.{reorders}
 use Rattle.order.proofs.Layer.new.Goals as goal
 
@@ -15,8 +17,13 @@ pub returns : goal.returns
 returns g c =
     let p = c.args.p.now in
     let s = g.S.Store.shows c.args.store in
-    let told = c.figures-n.ensures.told in
+    let e = c.figures-n.ensures in
+    let places = c.unwrap_or_default-order.result.places.items in
+    let found = order_found p _ c.of.result _ c.of.ensures c.unwrap_or_default-order.ensures in
+    let same = subst (λ n. order_of n places ≡ order_of n p) e.told.variables found in
     record {
-      shows = ap (ordered _) c.figures-n.ensures.same ∙ order_or_none p s _ told.variables c.of.result _ c.of.ensures c.unwrap_or_default-order.ensures;
-      reorders = reorders _ s (permutes_order s.vars p) told.lawful;
+      below = e.same;
+      order = ap (λ x. order_of x.vars places) e.same ∙ same;
+      reorders = reorders _ _ (permutes_order _ places) (subst Lawful (sym e.same) e.told.lawful);
+      shows = ap (ordered places) e.same ∙ ap (λ q. renamed q s) same;
     }
