@@ -18,7 +18,7 @@ use Rattle.store.specs.Calls.{Answers, Reply, Makes, TellsValue, TellsFigures}
 use Rattle.order.specs.Listing.{is_order, order_of, place, Fits}
 use Rattle.order.specs.Facts.{Permutes}
 use Rattle.order.specs.Below.{AnswersAsBelow, TellsAsBelow}
-use Rattle.order.specs.Renaming.{placed, above, renamed, ordered, task_below}
+use Rattle.order.specs.Renaming.{placed, above, ordered, task_below}
 use Rattle.order.proofs.Lists.{is_order_tells, order_none, order_past, order_empty, place_is, permutes_order}
 use Rattle.order.proofs.Permute.{placed_lt, placed_ge, places_placed, above_stands, fix_stands}
 use Rattle.order.proofs.Rename.{reply_ordered, lawful_ordered}
@@ -53,7 +53,9 @@ task_ordered xs s t (Cofactor a i b) r l q =
     (subst (λ (c : Bool). Reply s t (s.held a) c (fix (p i) b (s.value a)) r) (within_below s.vars xs i) q)
 
 -- the call of the task below, by what it makes there
-pub as_below : (p : ℕ → ℕ) (s t : Shown) (task : Task) (r : Result ℕ Refusal) → Makes s (task_below p task) r t → AnswersAsBelow p s task r t
+pub as_below : (p : ℕ → ℕ) (s t : Shown) (task : Task) (r : Result ℕ Refusal)
+    → Makes s (task_below p task) r t
+    → AnswersAsBelow p s task r t
 as_below p s t (Variable i) r h = h
 as_below p s t (Not a) r h = h
 as_below p s t (Both And a b) r h = h
@@ -83,7 +85,8 @@ module _ (xs : List ℕ) (s : Shown) (once : is_order (length xs) xs ≡ true) (
   as_order = fun_ext (place_is s.vars xs once fits)
 
   -- what a making call answers, by the task v below
-  module _ (t : Shown) (task v : Task) (r : Result ℕ Refusal) (e : v ≡ task_below (place xs) task) (h : Makes s v r t) where
+  module _ (t : Shown) (task v : Task) (r : Result ℕ Refusal) (e : v ≡ task_below (place xs) task)
+      (h : Makes s v r t) where
     made_below : Makes s (task_below (order_of s.vars xs) task) r t
     made_below = subst (λ (j : Task). Makes s j r t) (e ∙ ap (λ (p : ℕ → ℕ). task_below p task) as_order) h
 
@@ -102,7 +105,8 @@ module _ (xs : List ℕ) (s : Shown) (once : is_order (length xs) xs ≡ true) (
       (cases_lt 0 (length xs))
 
   -- what the question of a value answers, by the valuation v below
-  module _ (a w v : ℕ) (r : Result Bool Refusal) (e : v ≡ placed (place xs) (length xs) w) (h : TellsValue s a v r) where
+  module _ (a w v : ℕ) (r : Result Bool Refusal) (e : v ≡ placed (place xs) (length xs) w)
+      (h : TellsValue s a v r) where
     o : Permutes s.vars (order_of s.vars xs)
     o = permutes_order s.vars xs
 

@@ -8,8 +8,8 @@ use Rattle.store.specs.Meaning.{Shown}
 use Rattle.store.specs.Calls.{MakesVariable, MakesNot, MakesAnd, MakesOr, MakesCofactor, TellsValue}
 use Rattle.order.specs.Facts.{Places}
 
--- the answer r to a making call is that of the store below, which shows s before and t after: to variable p(i) for variable i, to the
--- cofactor at p(i) for the cofactor at i, and to the same call for the others
+-- the answer r to a making call is that of the store below, which shows s before and t after: to variable p(i) for
+-- variable i, to the cofactor at p(i) for the cofactor at i, and to the same call for the others
 abbrev pub AnswersAsBelow : (ℕ → ℕ) → Shown → Task → Result ℕ Refusal → Shown → Type 0
 AnswersAsBelow p s (Variable i) r t = MakesVariable s (p i) r t
 AnswersAsBelow p s (Not a) r t = MakesNot s a r t

@@ -12,7 +12,11 @@ use Rattle.table.proofs.Tables.{table_past}
 use Rattle.table.proofs.Sound.{sound_tells}
 
 module _ (n : ℕ) (xs : List Truths) (capacity : ℕ) (s : sound n xs ≡ true) where
-  kept_record : (k : ℕ) (t : Truths) → k < length xs → slice_get xs k ≡ Some t → t ≡ table n (truth t) → IsRecord (shown n xs capacity) (suc (suc k)) t
+  kept_record : (k : ℕ) (t : Truths)
+      → k < length xs
+      → slice_get xs k ≡ Some t
+      → t ≡ table n (truth t)
+      → IsRecord (shown n xs capacity) (suc (suc k)) t
   kept_record k t h is e = record {
     own = omega arith;
     held = lt-ltb (suc (suc k)) (length xs + 2) (omega arith);
@@ -24,7 +28,8 @@ module _ (n : ℕ) (xs : List Truths) (capacity : ℕ) (s : sound n xs ≡ true)
   pub record_told : (a k : ℕ) (r : Option Truths) → a ≡ k + 2 → r ≡ slice_get xs k → RecordOf (shown n xs capacity) a r
   record_told a k r e at = subst (λ (b : ℕ). RecordOf (shown n xs capacity) b r) (sym (e ∙ two)) (⊎_elim
       (λ h. subst (RecordOf (shown n xs capacity) (suc (suc k))) (sym (at ∙ slice_get-get_or xs k none h))
-      (kept_record k (get_or xs k none) h (slice_get-get_or xs k none h) (All-get_or _ xs k none h ((sound_tells n xs).0 s).0)))
+      (kept_record k (get_or xs k none) h (slice_get-get_or xs k none h)
+      (All-get_or _ xs k none h ((sound_tells n xs).0 s).0)))
       (λ h. subst (RecordOf (shown n xs capacity) (suc (suc k))) (sym (at ∙ slice_get_past xs k h))
       (λ _. le-ltb (suc (suc k)) (length xs + 2) (omega arith)))
       (cases_lt k (length xs)))

@@ -19,7 +19,9 @@ returns-clause-below g c =
     made_as_below l.order.places.items _ l.order.once l.fits _ _ _ _ c.task_below.ensures c.answer.ensures
 
 pub returns-clause-order : goal.returns-clause-order
-returns-clause-order g c = ap (λ n. order_of n c.args.self.now.order.places.items) (reply_vars _ _ _ _ _ _ c.answer.ensures)
+returns-clause-order g c =
+    let places = c.args.self.now.order.places.items in
+    ap (λ n. order_of n places) (reply_vars _ _ _ _ _ _ c.answer.ensures)
 
 pub returns-clause-reorders : goal.returns-clause-reorders
 returns-clause-reorders g c = reorders _ _ (permutes_order _ c.args.self.now.order.places.items) c.answer.ensures.after

@@ -27,7 +27,8 @@ returns c =
     let t = fits_tells n 10 _ (e.fit (omega arith)) in
     let is = ap₂ (shown n) p.empty p.room in
     record {
-      shows = is ∙ made_of_choice (λ m r. shown m [] r) (suits c.args.n size) c.args.n c.args.records.now e.variables e.records;
+      shows = is
+          ∙ made_of_choice (λ m r. shown m [] r) (suits c.args.n size) c.args.n c.args.records.now e.variables e.records;
       fresh = subst Fresh (sym is) (fresh_shown n _);
       lawful = subst Lawful (sym is) (lawful_empty n _ t.1 t.2);
     }
