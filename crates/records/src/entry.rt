@@ -2,11 +2,12 @@
 // No `Copy`: an entry that is found, or finds no room, is dropped.
 ghost use Rattle.std.specs.Prelude.{◌≡◌, ℕ, true};
 
+/// What a list is of. Its `==` says which entry is found for another.
 pub trait Entry: Eq + Drop {
     ghost hashed: { Self → ℕ } = { λ _. 0 };
 
-    // By which the entry is found faster: it serves well where unequal entries seldom agree in its last 14 bits.
-    // A kind that has none answers 0. No body says so here: it would be proved for every `hashed`.
+    /// By which the entry is found faster: it serves well where unequal entries seldom agree in its last 14 bits. A kind that has none answers 0.
+    // No body says so here: it would be proved for every `hashed`.
     // No `Hash` of the library: a hasher to take it would say the same in more lines.
     fn hash(&self) -> u16
         ensures { result ≡ hashed self.now };
