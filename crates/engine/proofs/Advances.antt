@@ -1,13 +1,14 @@
 -- The call that makes the next set.
-use Rattle.std.proofs.Common.{◌≡◌, ℕ, suc, ◌<◌, ◌≤◌, ◌+◌, ◌++◌, List, [], ◌∷◌, length, get_or, Some, Ok, Err, Result, sym, ap, ◌∙◌, subst, ⊎_elim, eq-or-lt_of_le, add-one, arith, pow_mono}
+use Rattle.std.proofs.Common.{◌≡◌, ℕ, suc, ◌<◌, ◌≤◌, ◌+◌, ◌++◌, [], ◌∷◌, length, get_or, Some, Ok, Err, Result, sym, ap, ◌∙◌, subst, ⊎_elim, eq-or-lt_of_le, add-one, arith, pow_mono}
 use Rattle.std.proofs.Math.Seq.{get_or-append_seam}
 use Rattle.std.proofs.lemmas.List.{get_or_append_left, length-append}
 use Rattle.store.specs.Meaning.{Shown, Grown, Lawful}
 use Rattle.making.specs.declared.fault.Fault.{Fault as Unmade}
 use Rattle.making.specs.Ends.{Ends, made, stuck, located}
 use Rattle.making.specs.Loads.{registers_of, advance_list}
-use Rattle.making.specs.Making.{Means, Stops, here, later}
+use Rattle.making.specs.Making.{Means}
 use Rattle.making.proofs.Backs.{kept_all}
+use Rattle.making.proofs.Bounds.{stops_lawful}
 use Rattle.making.proofs.Steps.{kept, runs_grown, stops_grown}
 use Rattle.runs.specs.Models.{Model, system}
 use Rattle.runs.specs.Search.{open_yet, Reached}
@@ -26,11 +27,6 @@ use Rattle.engine.specs.declared.search.Search.{Search}
 use Rattle.engine.specs.Advancing.{Reaches, Advances}
 use Rattle.engine.specs.Keeping.{World, searching, Sets, Next}
 use Rattle.engine.proofs.Keepings.{Leads_on, from_some, stays_some}
-
--- a list that was refused ended at a lawful store
-stops_lawful : {s t : Shown} {l : List _} {x : _} → Stops s l x t → Lawful t
-stops_lawful (here w q) = w
-stops_lawful (later a w m q) = stops_lawful q
 
 sets_kept : (m : Model) (j : ℕ) (s t : Shown) (k : Search) → Grown s t → Lawful t → Sets m j s k → Sets m j t k
 sets_kept m j s t k g l h = record {

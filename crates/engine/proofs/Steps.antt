@@ -101,7 +101,7 @@ module _ (m : Model) (j : ℕ) where
 
       pub met : (u : Shown) (x : Result ℕ Refusal) → Reply t u (t.held a && t.held k.parts.init) true (λ w. t.value a w && t.value k.parts.init w) x
           → Ends plain t u last_at (λ n. Means u n (both (back_fn m j) (init_fn m))) x
-      met u x y = gives_last y.lawful x (and_answers y q (kept (runs_grown r) d.init))
+      met u x y = gives_last y.lawful y.after x (and_answers y q (kept (runs_grown r) d.init))
 
       module _ (n : a ≡ k.last.set → ⊥) {u : Shown} (b : ℕ) (r' : Runs t last_at u) (q' : Means u b (both (back_fn m j) (init_fn m))) (l' : Lawful u) where
         met_set : Means u b (both (set_fn m (suc j)) (init_fn m))

@@ -5,19 +5,21 @@ use Rattle.circuit.specs.declared.gate.Gate.{Gate}
 use Rattle.circuit.specs.Literals.{Literal}
 use Rattle.circuit.specs.Netlists.{gate}
 use Rattle.claim.specs.declared.code.Code.{Code}
+use Rattle.claim.specs.Faults.{Read}
 use Rattle.claim.specs.Grammar.{Tree, const, named, neg, conj, disj, post, code, operators}
 use Rattle.claim.specs.declared.code.Act.TheVariants.{Not, And, Or}
+use Rattle.claim.proofs.Lengths.{read_operators}
 use Rattle.description.specs.declared.part.Part.{Part}
 use Rattle.description.specs.declared.part.Part.TheVariants.{Circuit, Assumption, Property, Sets}
 use Rattle.runs.specs.Functions.{register, copy, negated, both, composed_all, quantified, copied, pre_image, first_of, back_of}
-use Rattle.runs.specs.Models.{Model, system}
+use Rattle.runs.specs.Models.{Model, system, sizes}
 use Rattle.runs.specs.Search.{bad}
 use Rattle.runs.specs.Valuations.{literal_fn, line_fn, claim_fn, next_fn, init_fn, set_fn, back_fn}
 use Rattle.making.specs.Models.{width}
 use Rattle.making.specs.Making.{Item, at, upto}
 use Rattle.making.specs.Pieces.{composed_list, composed_all_list, halves_list, quantified_list, negations_list, variables_list, literal_list, gate_list, gates_list, operators_list}
 use Rattle.making.specs.Loads.{start_list, load_list, back_list, advance_list}
-use Rattle.making.specs.Laws.{load_bound, advance_bound}
+use Rattle.making.specs.Bounds.{load_bound, advance_bound}
 
 at_length : (p : Part) (l : ℕ) (fs : List Fn) → length (at p l fs) ≡ length fs
 at_length p l [] = refl
@@ -45,6 +47,16 @@ operators_append : (xs ys : List Code) → operators (xs ++ ys) ≡ operators xs
 operators_append [] ys = omega arith
 operators_append (x ∷ xs) ys = omega (arith, operators_append xs ys)
 
+-- an operator comes after its two operands
+two_length :
+    (k l o : List Item) (xs ys zs : List Code)
+    → length k ≡ operators xs
+    → length l ≡ operators ys
+    → length o ≡ operators zs
+    → length (k ++ (l ++ o)) ≡ operators (xs ++ (ys ++ zs))
+two_length k l o xs ys zs a b c =
+    omega (arith, a, b, c, length-append k (l ++ o), length-append l o, operators_append xs (ys ++ zs), operators_append ys zs)
+
 -- a call for each operator
 operators_length : (m : Model) (part : Part) (t : Tree) → length (operators_list m part t) ≡ operators (post t)
 operators_length m part (const p b) = refl
@@ -52,27 +64,11 @@ operators_length m part (named p s i) = refl
 operators_length m part (neg p t) =
     omega (arith, operators_length m part t, operators_append (post t) (code Not p ∷ []), length-append (operators_list m part t) (at part p (claim_fn m (neg p t) ∷ [])))
 operators_length m part (conj p t u) =
-    let l : List Item = at part p (claim_fn m (conj p t u) ∷ []) in
-    omega (
-      arith,
-      operators_length m part t,
-      operators_length m part u,
-      operators_append (post t) (post u ++ code And p ∷ []),
-      operators_append (post u) (code And p ∷ []),
-      length-append (operators_list m part t) (operators_list m part u ++ l),
-      length-append (operators_list m part u) l,
-    )
+    two_length (operators_list m part t) (operators_list m part u) (at part p (claim_fn m (conj p t u) ∷ [])) (post t) (post u) (code And p ∷ [])
+    (operators_length m part t) (operators_length m part u) refl
 operators_length m part (disj p t u) =
-    let l : List Item = at part p (claim_fn m (disj p t u) ∷ []) in
-    omega (
-      arith,
-      operators_length m part t,
-      operators_length m part u,
-      operators_append (post t) (post u ++ code Or p ∷ []),
-      operators_append (post u) (code Or p ∷ []),
-      length-append (operators_list m part t) (operators_list m part u ++ l),
-      length-append (operators_list m part u) l,
-    )
+    two_length (operators_list m part t) (operators_list m part u) (at part p (claim_fn m (disj p t u) ∷ [])) (post t) (post u) (code Or p ∷ [])
+    (operators_length m part t) (operators_length m part u) refl
 
 negations_length : (p : Part) (l : ℕ) (f : ℕ → Fn) (n : ℕ) → length (negations_list p l f n) ≤ n
 negations_length p l f n = omega (arith, upto_length 1 (λ i. at p l (negated (f i) ∷ [])) (λ i. omega arith) n)
@@ -101,7 +97,7 @@ start_length p l n m h q init next =
       negations_length p l next n,
     )
 
-pub load_length : (m : Model) → length (load_list m) ≤ load_bound m
+pub load_length : (m : Model) → length (load_list m) ≤ load_bound m (operators (post m.assumption)) (operators (post m.property))
 load_length m =
     let n = m.circuit.registers in
     let k = m.circuit.inputs in
@@ -124,6 +120,13 @@ load_length m =
       operators_length m Property m.property,
       start_length Sets 0 n k h q (init_fn m) (next_fn m),
     )
+
+pub load_texts :
+    (m : Model) {a p : List ℕ}
+    → Read a (sizes m.circuit) m.assumption
+    → Read p (sizes m.circuit) m.property
+    → length (load_list m) ≤ load_bound m (length a) (length p)
+load_texts m h q = omega (arith, load_length m, read_operators h, read_operators q)
 
 back_length : (p : Part) (l n m : ℕ) (next : ℕ → Fn) (h f : Fn) → length (back_list p l n m next h f) ≤ 10 * n + 3 * m + 2
 back_length p l n m next h f =

@@ -68,7 +68,7 @@ module _ (m : Model) (p : Part) (l : ℕ) where
   -- an operator whose operands have left the stack
   result : {s t : Shown} (st : List ℕ) (x : Result ℕ Refusal) (f : Fn) (fs : List Fn) → Lawful s → Lawful t → Stacked s st fs → Answers s t f x
       → Ends plain s t (at p l (f ∷ [])) (λ a. Standing t (st ++ a ∷ []) (f ∷ fs)) x
-  result st x f fs w after k y = ends_with (λ a v m. record { lawful = after; stacked = on refl m (stacked_kept (runs_grown v) k) }) (gives_last w x y)
+  result st x f fs w after k y = ends_with (λ a v m. record { lawful = after; stacked = on refl m (stacked_kept (runs_grown v) k) }) (gives_last w after x y)
 
   module _ {s t : Shown} (st st' : List ℕ) (x : Result ℕ Refusal) where
     pub on_not : (a : ℕ) {fs gs k : List Fn} → Standing s st fs → Acts m Not fs k gs → Popped st a st' → Reply s t (s.held a) true (λ w. not (s.value a w)) x

@@ -76,7 +76,7 @@ grown_more {s = s} g h = record {
 
 pub runs_grown : {s t : Shown} {l : List Item} → Runs s l t → Grown s t
 runs_grown ended = grown_none
-runs_grown (went a l m r) = grown_more m.grown (runs_grown r)
+runs_grown (went a l m w r) = grown_more m.grown (runs_grown r)
 
 pub stops_grown : {s t : Shown} {l : List Item} {x : Item} → Stops s l x t → Grown s t
 stops_grown (here l p) = grown_none
@@ -84,11 +84,11 @@ stops_grown (later a l m r) = grown_more m.grown (stops_grown r)
 
 pub runs_join : {s t u : Shown} {l k : List Item} → Runs s l t → Runs t k u → Runs s (l ++ k) u
 runs_join ended q = q
-runs_join (went a l m r) q = went a l m (runs_join r q)
+runs_join (went a l m w r) q = went a l m w (runs_join r q)
 
 pub stops_after : {s t u : Shown} {l k : List Item} {x : Item} → Runs s l t → Stops t k x u → Stops s (l ++ k) x u
 stops_after ended q = q
-stops_after (went a l m r) q = later a l m (stops_after r q)
+stops_after (went a l m w r) q = later a l m (stops_after r q)
 
 pub stops_before : {s t : Shown} {l : List Item} {x : Item} (k : List Item) → Stops s l x t → Stops s (l ++ k) x t
 stops_before k (here l p) = here l p
@@ -101,9 +101,15 @@ refused l Number m = absurd m
 refused l Variable m = absurd m
 
 -- the last call of a list
-pub gives_last : {s t : Shown} {x : Item} → Lawful s → (r : Result ℕ Refusal) → Answers s t x.fn r → Ends plain s t (x ∷ []) (λ a. Means t a x.fn) r
-gives_last l (Ok a) m = made (went a l m ended) (fresh m)
-gives_last {x = x} l (Err e) m = let q = refused l e m in stuck x q.0 q.1
+pub gives_last :
+    {s t : Shown} {x : Item}
+    → Lawful s
+    → Lawful t
+    → (r : Result ℕ Refusal)
+    → Answers s t x.fn r
+    → Ends plain s t (x ∷ []) (λ a. Means t a x.fn) r
+gives_last l w (Ok a) m = made (went a l m w ended) (fresh m)
+gives_last {x = x} l w (Err e) m = let q = refused l e m in stuck x q.0 q.1
 
 -- a call that was refused ends the list
 pub ends_here : {X : Type 0} {P : X → Type 0} {s t : Shown} {x : Item} {xs : List Item} → Lawful s → (e : Refusal) → Answers s t x.fn (Err e) → Ends plain s t (x ∷ xs) P (Err e)
@@ -111,9 +117,9 @@ ends_here {x = x} l e m = let q = refused l e m in stuck x q.0 q.1
 
 -- a call that was accepted leaves the rest
 pub ends_later : {X E : Type 0} {room : Item → ℕ → E} {P : X → Type 0} {s t u : Shown} {x : Item} {xs : List Item} {a : ℕ} {r : Result X E}
-    → Lawful s → Made s t x.fn a → Ends room t u xs P r → Ends room s u (x ∷ xs) P r
-ends_later {a = a} l m (made q k) = made (went a l m q) k
-ends_later {a = a} l m (stuck y q k) = stuck y (later a l m q) k
+    → Lawful s → Made s t x.fn a → Lawful t → Ends room t u xs P r → Ends room s u (x ∷ xs) P r
+ends_later {a = a} l m w (made q k) = made (went a l m w q) k
+ends_later {a = a} l m w (stuck y q k) = stuck y (later a l m q) k
 
 -- a list that was made leaves the rest
 pub ends_after : {X E : Type 0} {room : Item → ℕ → E} {P : X → Type 0} {s t u : Shown} {l k : List Item} {r : Result X E}

@@ -31,13 +31,13 @@ module _ (m : Model) (s : Shown) where
     made_next : (t u : Shown) (x a : ℕ) → x < width m → Runs s (variables_list x) t → MakesVariable t x (Ok a) u → Runs s (variables_list (suc x)) u × Made t u (bit x) a
     made_next t u x a l so y =
         let k : Made t u (bit x) a = variable_answers y (subst (λ n. x < n) (sym (runs_grown so).vars) (omega (arith, l, wide))) in
-        (runs_join so (went a y.lawful k ended), k)
+        (runs_join so (went a y.lawful k y.after ended), k)
 
     pub refused_next : (t u : Shown) (x : ℕ) (e : Refusal) {X : Type 0} {P : X → Type 0} → x < width m → Runs s (variables_list x) t → MakesVariable t x (Err e) u
         → Ends plain s u (variables_list (width m)) P (Err e)
     refused_next t u x e l so y =
         ends_upto (λ k. at Circuit 0 (bit k ∷ [])) (suc x) (width m) l
-        (ends_after so (gives_last y.lawful (Err e) (variable_answers y (subst (λ n. x < n) (sym (runs_grown so).vars) (omega (arith, l, wide))))))
+        (ends_after so (gives_last y.lawful y.after (Err e) (variable_answers y (subst (λ n. x < n) (sym (runs_grown so).vars) (omega (arith, l, wide))))))
 
     module _ (t t₁ : Shown) (ns cs : List ℕ) (i a : ℕ) (lt : i < m.circuit.registers) (so : Registers t ns cs i) (y : MakesVariable t (2 * i) (Ok a) t₁) where
       pub runs_register : Runs s (variables_list (2 * i + 1)) t₁

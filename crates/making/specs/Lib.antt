@@ -6,4 +6,5 @@ pub mod Ends
 pub mod Stacks
 pub mod Promises
 pub mod Faults
+pub mod Bounds
 pub mod Laws

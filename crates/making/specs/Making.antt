@@ -22,10 +22,16 @@ abbrev pub upto : ℕ → (ℕ → List Item) → List Item
 upto zero F = []
 upto (suc n) F = upto n F ++ F n
 
--- each call of the list was accepted, in this order, between s and t
+-- each call of the list was accepted, in this order, between s and t, and left a lawful store
 pub data Runs : Shown → List Item → Shown → Type 0 where
   ended : {s : Shown} → Runs s [] s
-  went : {s t u : Shown} {x : Item} {xs : List Item} (a : ℕ) → Lawful s → Made s t x.fn a → Runs t xs u → Runs s (x ∷ xs) u
+  went :
+      {s t u : Shown} {x : Item} {xs : List Item} (a : ℕ)
+      → Lawful s
+      → Made s t x.fn a
+      → Lawful t
+      → Runs t xs u
+      → Runs s (x ∷ xs) u
 
 -- the calls before x were accepted, in this order, and x was refused for room: its price exceeded the free units at t
 pub data Stops : Shown → List Item → Item → Shown → Type 0 where

@@ -1,13 +1,13 @@
 -- A call with its arguments has one answer, if the store then shows the same.
-use Rattle.std.proofs.Common.{◌≡◌, ℕ, suc, Bool, true, cond, List, Ok, Err, Result, sym, refl, ap, ap₂, ◌∙◌}
+use Rattle.std.proofs.Common.{◌≡◌, ℕ, suc, Bool, List, Ok, Err, Result, sym, refl, ap, ap₂}
 use Rattle.std.proofs.Common.{subst, arith}
-use Rattle.store.specs.Meaning.{Shown, Lawful, holds}
+use Rattle.store.specs.Meaning.{Shown}
 use Rattle.description.specs.Checks.{Checked}
 use Rattle.description.specs.declared.fault.Fault.{Fault as Misdescription}
 use Rattle.description.proofs.Checks.{one_check}
-use Rattle.making.specs.Making.{Item, Runs, Stops, here, later, Held, none, more, Found, all, first, missing}
+use Rattle.making.specs.Making.{Item, Runs, Stops}
 use Rattle.making.specs.Loads.{load_list}
-use Rattle.making.proofs.Bounds.{runs_held, stops_missing}
+use Rattle.making.proofs.Bounds.{one_way, one_stop}
 use Rattle.runs.specs.Models.{Model, system}
 use Rattle.runs.proofs.Traces as runs
 use Rattle.uses.specs.declared.fault.Fault.{Fault}
@@ -23,33 +23,13 @@ use Rattle.uses.proofs.Told.{never}
 use Rattle.uses.proofs.Written.{written_like}
 use Rattle.uses.proofs.Uses.{closed, Come, come}
 
-none_missing : {t : Shown} {l : List Item} → Held t l → missing t l ≡ all
-none_missing none = refl
-none_missing {t = t} (more {x = x} {xs = xs} h k) = ap (λ b. cond b (missing t xs) (first x)) h ∙ none_missing k
-
-stops_lawful : {s t : Shown} {l : List Item} {y : Item} → Stops s l y t → Lawful t
-stops_lawful (here w q) = w
-stops_lawful (later a w m q) = stops_lawful q
-
--- the first item whose result is not held at the end is one
-same_item : {x y : Item} → first x ≡ first y → x ≡ y
-same_item e = cc
-
-not_all : {x : Item} → all ≡ first x → ⊥
-not_all e = never (cc)
-
 -- by what the store shows at the end, a list was made, or which call of it was refused
 module _ {s t u : Shown} {l : List Item} (e : t ≡ u) where
-  one_item : {x y : Item} → Stops s l x t → Stops s l y u → x ≡ y
-  one_item q q' = same_item (sym (stops_missing q) ∙ ap (λ v. missing v l) e ∙ stops_missing q')
-
   not_stopped : {y : Item} → Runs s l t → Stops s l y u → ⊥
-  not_stopped r q =
-      let held = runs_held (subst Lawful (sym e) (stops_lawful q)) r in
-      not_all (sym (none_missing (subst (λ v. Held v l) e held)) ∙ stops_missing q)
+  not_stopped {y = y} r q = one_way r (subst (Stops s l y) (sym e) q)
 
   one_room : {x y : Item} → Stops s l x t → Stops s l y u → room x t ≡ room y u
-  one_room q q' = ap₂ room (one_item q q') e
+  one_room {y = y} q q' = ap₂ room (one_stop q (subst (Stops s l y) (sym e) q')) e
 
 -- one answer, one pair of arrays and one state
 abbrev One : Stand → Stand → Call → Call → Type 0

@@ -1,5 +1,5 @@
 -- What a call leaves as it was.
-use Rattle.std.proofs.Common.{◌≡◌, ℕ, true, false, List, Err, refl}
+use Rattle.std.proofs.Common.{◌≡◌, ℕ, false, List, Err, refl}
 use Rattle.uses.specs.declared.fault.Fault.{Fault}
 use Rattle.uses.specs.Calls.{Call, trace, Stand, is_load, is_advance, is_full}
 use Rattle.uses.specs.Uses.{Step, load_twice, load_wrong, load_full, loads, advance_empty, advance_settled}

@@ -4,7 +4,7 @@ use Rattle.store.specs.Meaning.{Shown, Grown, free, price}
 use Rattle.description.specs.Checks.{Checked}
 use Rattle.description.specs.declared.part.Part.{Part}
 use Rattle.making.specs.declared.fault.Fault.TheVariants.{Room}
-use Rattle.making.specs.Making.{Item, Runs, Stops, Held}
+use Rattle.making.specs.Making.{Item, Runs, Stops}
 use Rattle.making.specs.Loads.{load_list, advance_list}
 use Rattle.runs.specs.Models.{Model, system}
 use Rattle.runs.specs.Systems.{Breaking}

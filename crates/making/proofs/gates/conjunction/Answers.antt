@@ -37,4 +37,4 @@ returns g c p l f mx my =
     subst (λ k. Ends plain s t k (λ a. Lawful t × Means t a (both (literal_fn f x.left) (literal_fn f x.right))) c.and.result) (gate_parts p l f x)
     (ends_after a.0 (ends_after b.0
     (ends_with {Q = λ a. Lawful t × Means t a (both (literal_fn f x.left) (literal_fn f x.right))} (λ _ _ k. (c.and.ensures.after, k))
-    (gives_last c.and.ensures.lawful c.and.result (and_answers c.and.ensures (kept (runs_grown b.0) a.1) b.1)))))
+    (gives_last c.and.ensures.lawful c.and.ensures.after c.and.result (and_answers c.and.ensures (kept (runs_grown b.0) a.1) b.1)))))

@@ -9,4 +9,4 @@ returns-in_err-low g c p l f ma li =
 pub returns : goal.returns
 returns g c p l f ma li =
     let so = runs_of (c.in_ok-low.ensures p l f ma li) in
-    ends_after so.0 (gives_last c.or.ensures.lawful _ (or_answers c.or.ensures so.1.0 so.1.1))
+    ends_after so.0 (gives_last c.or.ensures.lawful c.or.ensures.after _ (or_answers c.or.ensures so.1.0 so.1.1))

@@ -20,7 +20,7 @@ returns-in_err-negation-clause-negates g c p q f w h =
     let lt : k < n = c.loop-function-test.true in
     broke c.from_residual.result c.in_err-negation.field-0.0 c.from_residual.ensures.1
     (ends_upto (λ i. at p q (negated (f i) ∷ [])) (suc k) n lt
-    (ends_after r.0 (gives_last c.in_err-negation.ensures.lawful _ (not_answers c.in_err-negation.ensures (kept (runs_grown r.0) (h k lt))))))
+    (ends_after r.0 (gives_last c.in_err-negation.ensures.lawful c.in_err-negation.ensures.after _ (not_answers c.in_err-negation.ensures (kept (runs_grown r.0) (h k lt))))))
 
 pub loop-function-preserved : goal.loop-function-preserved
 loop-function-preserved g c =
@@ -33,7 +33,7 @@ loop-function-preserved g c =
       λ p q f w h.
           let r = c.loop-function.invariant.1 p q f w h in
           let m = kept (runs_grown r.0) (h k c.loop-function-test.true) in
-          let b = runs_of (gives_last c.in_ok-negation.ensures.lawful _ (not_answers c.in_ok-negation.ensures m)) in
+          let b = runs_of (gives_last c.in_ok-negation.ensures.lawful c.in_ok-negation.ensures.after _ (not_answers c.in_ok-negation.ensures m)) in
           let more = paired_more ps f k pair r.2 (runs_grown b.0) (record { function = kept (runs_grown b.0) m; negation = b.1 }) c.loop-function.invariant.0 in
           subst (λ n. Runs s (negations_list p q f n) u × Lawful u × Paired u c.push.new.self.items f n) (sym (add-one k))
           (runs_join r.0 b.0, c.in_ok-negation.ensures.after, subst (λ xs. Paired u xs f (suc k)) (sym c.push.ensures.items) more),

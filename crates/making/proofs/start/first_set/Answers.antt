@@ -15,7 +15,7 @@ pub returns-in_err-allowed : goal.returns-in_err-allowed
 returns-in_err-allowed g c p l h q w mh mq =
     let m1 = not_answers c.in_ok-broken.ensures mq in
     broke c.from_residual-in_err-allowed.result c.in_err-allowed.field-0.0 c.from_residual-in_err-allowed.ensures.1
-    (ends_later c.in_ok-broken.ensures.lawful m1
+    (ends_later c.in_ok-broken.ensures.lawful m1 c.in_ok-broken.ensures.after
     (ends_here c.in_err-allowed.ensures.lawful _ (and_answers c.in_err-allowed.ensures (fresh m1) (kept m1.grown mh))))
 
 pub first_input-first-requires : goal.first_input-first-requires
@@ -37,6 +37,6 @@ returns g c p l h q w mh mq =
     let first : c.first_input-first.result ≡ 2 * n.registers = c.first_input-first.ensures ∙ ap (λ r. 2 * r) c.registers.ensures in
     let y = subst (λ x. ExistsAll s c.in_ok-allowed.allowed x n.inputs c.exists_all.result t) first
     (subst (λ k. ExistsAll s c.in_ok-allowed.allowed c.first_input-first.result k c.exists_all.result t) c.inputs.ensures c.exists_all.ensures) in
-    ends_later c.in_ok-broken.ensures.lawful m1
-    (ends_later c.in_ok-allowed.ensures.lawful m2
+    ends_later c.in_ok-broken.ensures.lawful m1 c.in_ok-broken.ensures.after
+    (ends_later c.in_ok-allowed.ensures.lawful m2 c.in_ok-allowed.ensures.after
     (y p l (both (negated q) h) (fresh m2) (subst (λ k. 2 * n.registers + n.inputs ≤ k) (sym (grown_more m1.grown m2.grown).vars) w)))

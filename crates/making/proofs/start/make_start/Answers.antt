@@ -36,7 +36,7 @@ pub returns-in_err-copies : goal.returns-in_err-copies
 returns-in_err-copies g c p l h q w ln cs mh mq =
     let ok = valid_alone _ c.args.lines.now.circuit.now.sound in
     let r1 = runs_of (c.in_ok-set.ensures p l h q w mh mq) in
-    let r2 = runs_of (gives_last c.in_ok-met.ensures.lawful _ (and_answers c.in_ok-met.ensures r1.1 (kept (runs_grown r1.0) (init_means ok _ ln _ c.init-init.ensures)))) in
+    let r2 = runs_of (gives_last c.in_ok-met.ensures.lawful c.in_ok-met.ensures.after _ (and_answers c.in_ok-met.ensures r1.1 (kept (runs_grown r1.0) (init_means ok _ ln _ c.init-init.ensures)))) in
     let g2 = grown_more (runs_grown r1.0) (runs_grown r2.0) in
     broke c.from_residual-in_err-copies.result c.in_err-copies.field-0.0 c.from_residual-in_err-copies.ensures.1
     (ends_after r1.0 (ends_after r2.0 (ends_before _ (pairs_made p l (λ i. bit (copy i)) _ _ _ _ g2 c.in_ok-met.ensures.after cs c.args.lines.now.copied c.deref.ensures.0 c.in_err-copies.ensures.negates))))
@@ -45,7 +45,7 @@ pub returns-in_err-nexts : goal.returns-in_err-nexts
 returns-in_err-nexts g c p l h q w ln cs mh mq =
     let ok = valid_alone _ c.args.lines.now.circuit.now.sound in
     let r1 = runs_of (c.in_ok-set.ensures p l h q w mh mq) in
-    let r2 = runs_of (gives_last c.in_ok-met.ensures.lawful _ (and_answers c.in_ok-met.ensures r1.1 (kept (runs_grown r1.0) (init_means ok _ ln _ c.init-init.ensures)))) in
+    let r2 = runs_of (gives_last c.in_ok-met.ensures.lawful c.in_ok-met.ensures.after _ (and_answers c.in_ok-met.ensures r1.1 (kept (runs_grown r1.0) (init_means ok _ ln _ c.init-init.ensures)))) in
     let g2 = grown_more (runs_grown r1.0) (runs_grown r2.0) in
     let r3 = runs_of (pairs_made p l (λ i. bit (copy i)) _ _ _ _ g2 c.in_ok-met.ensures.after cs c.args.lines.now.copied c.deref.ensures.0 c.in_ok-copies.ensures.negates) in
     let g3 = grown_more g2 (runs_grown r3.0) in
@@ -58,7 +58,7 @@ returns g c p l h q w ln cs mh mq =
     let ok = valid_alone _ c.args.lines.now.circuit.now.sound in
     let init = init_means ok _ ln _ c.init-init.ensures in
     let r1 = runs_of (c.in_ok-set.ensures p l h q w mh mq) in
-    let r2 = runs_of (gives_last c.in_ok-met.ensures.lawful _ (and_answers c.in_ok-met.ensures r1.1 (kept (runs_grown r1.0) init))) in
+    let r2 = runs_of (gives_last c.in_ok-met.ensures.lawful c.in_ok-met.ensures.after _ (and_answers c.in_ok-met.ensures r1.1 (kept (runs_grown r1.0) init))) in
     let g2 = grown_more (runs_grown r1.0) (runs_grown r2.0) in
     let r3 = runs_of (pairs_made p l (λ i. bit (copy i)) _ _ _ _ g2 c.in_ok-met.ensures.after cs c.args.lines.now.copied c.deref.ensures.0 c.in_ok-copies.ensures.negates) in
     let g3 = grown_more g2 (runs_grown r3.0) in

@@ -32,7 +32,7 @@ returns-in_err-some-clause-gives g c p l f h next mf k =
     let k1 = kept_all (runs_grown r1.0) k in
     let r2 = runs_of (puts_nexts p l (copied (registers_of ps) f) _ _ _ r1.1 ps next h k1 c.deref-2.ensures.0 c.in_ok-led.ensures) in
     let k2 = kept_all (runs_grown r2.0) k1 in
-    let r3 = runs_of (gives_last c.in_ok-allowed.ensures.lawful _ (and_answers c.in_ok-allowed.ensures r2.1 k2.assumed)) in
+    let r3 = runs_of (gives_last c.in_ok-allowed.ensures.lawful c.in_ok-allowed.ensures.after _ (and_answers c.in_ok-allowed.ensures r2.1 k2.assumed)) in
     broke c.from_residual-in_err-some.result c.in_err-some.field-0.0 c.from_residual-in_err-some.ensures.1
     (ends_after r1.0 (ends_after r2.0 (ends_after r3.0 (ends_before _ ((rw (c.first_input.ensures, c.registers.ensures.counts) at c.in_err-some.ensures) p l (both (pre_image (registers_of ps) next f) h) r3.1 (kept_all (runs_grown r3.0) k2).wide)))))
 
@@ -43,7 +43,7 @@ returns-clause-gives g c p l f h next mf k =
     let k1 = kept_all (runs_grown r1.0) k in
     let r2 = runs_of (puts_nexts p l (copied (registers_of ps) f) _ _ _ r1.1 ps next h k1 c.deref-2.ensures.0 c.in_ok-led.ensures) in
     let k2 = kept_all (runs_grown r2.0) k1 in
-    let r3 = runs_of (gives_last c.in_ok-allowed.ensures.lawful _ (and_answers c.in_ok-allowed.ensures r2.1 k2.assumed)) in
+    let r3 = runs_of (gives_last c.in_ok-allowed.ensures.lawful c.in_ok-allowed.ensures.after _ (and_answers c.in_ok-allowed.ensures r2.1 k2.assumed)) in
     let r4 = runs_of ((rw (c.first_input.ensures, c.registers.ensures.counts) at c.in_ok-some.ensures) p l (both (pre_image (registers_of ps) next f) h) r3.1 (kept_all (runs_grown r3.0) k2).wide) in
     let g4 = grown_more (runs_grown r1.0) (grown_more (runs_grown r2.0) (grown_more (runs_grown r3.0) (runs_grown r4.0))) in
-    ends_after r1.0 (ends_after r2.0 (ends_after r3.0 (ends_after r4.0 (gives_last c.or.ensures.lawful c.or.result (or_answers c.or.ensures r4.1 (kept g4 mf))))))
+    ends_after r1.0 (ends_after r2.0 (ends_after r3.0 (ends_after r4.0 (gives_last c.or.ensures.lawful c.or.ensures.after c.or.result (or_answers c.or.ensures r4.1 (kept g4 mf))))))

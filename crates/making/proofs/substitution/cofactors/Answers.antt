@@ -13,11 +13,11 @@ pub returns-in_err-high : goal.returns-in_err-high
 returns-in_err-high g c p l f ma li =
     let m1 = fix_answers false c.in_ok-low.ensures ma li in
     broke c.from_residual-in_err-high.result c.in_err-high.field-0.0 c.from_residual-in_err-high.ensures.1
-    (ends_later c.in_ok-low.ensures.lawful m1
+    (ends_later c.in_ok-low.ensures.lawful m1 c.in_ok-low.ensures.after
     (ends_here c.in_err-high.ensures.lawful _ (fix_answers true c.in_err-high.ensures (kept m1.grown ma) (subst (λ n. c.args.x < n) (sym m1.grown.vars) li))))
 
 pub returns : goal.returns
 returns g c p l f ma li =
     let m1 = fix_answers false c.in_ok-low.ensures ma li in
     let m2 = fix_answers true c.in_ok-high.ensures (kept m1.grown ma) (subst (λ n. c.args.x < n) (sym m1.grown.vars) li) in
-    made (went _ c.in_ok-low.ensures.lawful m1 (went _ c.in_ok-high.ensures.lawful m2 ended)) (kept m2.grown (fresh m1), fresh m2)
+    made (went _ c.in_ok-low.ensures.lawful m1 c.in_ok-low.ensures.after (went _ c.in_ok-high.ensures.lawful m2 c.in_ok-high.ensures.after ended)) (kept m2.grown (fresh m1), fresh m2)

@@ -17,7 +17,7 @@ returns-in_err-under g c p l f h ma mb li =
     let so = runs_of (c.in_ok-low.ensures p l f ma li) in
     let m3 = and_answers c.in_ok-over.ensures (kept (runs_grown so.0) mb.function) so.1.1 in
     broke c.from_residual-in_err-under.result c.in_err-under.field-0.0 c.from_residual-in_err-under.ensures.1
-    (ends_after so.0 (ends_later c.in_ok-over.ensures.lawful m3
+    (ends_after so.0 (ends_later c.in_ok-over.ensures.lawful m3 c.in_ok-over.ensures.after
     (ends_here c.in_err-under.ensures.lawful _ (and_answers c.in_err-under.ensures (kept m3.grown (kept (runs_grown so.0) mb.negation)) (kept m3.grown so.1.0)))))
 
 pub returns : goal.returns
@@ -25,5 +25,5 @@ returns g c p l f h ma mb li =
     let so = runs_of (c.in_ok-low.ensures p l f ma li) in
     let m3 = and_answers c.in_ok-over.ensures (kept (runs_grown so.0) mb.function) so.1.1 in
     let m4 = and_answers c.in_ok-under.ensures (kept m3.grown (kept (runs_grown so.0) mb.negation)) (kept m3.grown so.1.0) in
-    ends_after so.0 (ends_later c.in_ok-over.ensures.lawful m3 (ends_later c.in_ok-under.ensures.lawful m4
-    (gives_last c.or.ensures.lawful _ (or_answers c.or.ensures (kept m4.grown (fresh m3)) (fresh m4)))))
+    ends_after so.0 (ends_later c.in_ok-over.ensures.lawful m3 c.in_ok-over.ensures.after (ends_later c.in_ok-under.ensures.lawful m4 c.in_ok-under.ensures.after
+    (gives_last c.or.ensures.lawful c.or.ensures.after _ (or_answers c.or.ensures (kept m4.grown (fresh m3)) (fresh m4)))))
