@@ -20,6 +20,6 @@ fn main(rt: HostRuntime) -> io::Result<()> {
     let mut store = Diagram::new(VARIABLES, &mut records, &mut links);
     let mut job = Vec::with_capacity(rt.alloc(), MOST_BYTES as usize)?;
     rt.stdin().take(MOST_BYTES).read_to_end(&mut job)?;
-    let report = report_on(&job, &mut store);
+    let (report, _) = report_on(&job, &mut store);
     print!(rt; "{report}")
 }

@@ -1,15 +1,18 @@
--- A job has one right report, unless it is refused for room; and what a right report says of runs.
-use Rattle.std.proofs.Common.{◌≡◌, ℕ, suc, ◌<◌, ◌≤◌, ◌⊎◌, List, length, Ok, Err, Result, sym, refl, ap, ◌∙◌, subst, inl, inr, ⊎_elim, eq-or-lt_of_le, arith}
+-- A job has one right report, by what the store shows at the start and at the end; and what a right report says of runs.
+use Rattle.std.proofs.Common.{◌≡◌, ℕ, zero, suc, ◌<◌, ◌≤◌, List, [], ◌++◌, length, Ok, Err, Result, sym, refl, ap, ◌∙◌, subst, ⊎_elim, eq-or-lt_of_le, arith}
 use mathlib.Core.Path.{to_path_p}
 use native.Mathlib.Bridge.{le_prop}
 use Rattle.std.proofs.lemmas.Bool.{cases_lt}
-use Rattle.std.proofs.lemmas.List.{ext_get_or}
+use Rattle.std.proofs.lemmas.List.{append-nil, append_assoc, ext_get_or}
 use Rattle.store.specs.Meaning.{Shown}
 use Rattle.circuit.specs.declared.sizes.Sizes.{Sizes}
 use Rattle.description.specs.Checks.{Checked, right}
 use Rattle.description.specs.declared.fault.Fault.{Fault as Misdescription}
 use Rattle.description.proofs.Checks.{never, one_check}
 use Rattle.uses.specs.declared.fault.Fault.TheVariants.{Description}
+use Rattle.making.specs.Making.{Item, Runs, Stops}
+use Rattle.making.specs.Loads.{load_list, advance_list}
+use Rattle.making.proofs.Steps.{runs_join, stops_after, stops_before}
 use Rattle.runs.specs.Models.{Model, system, sizes}
 use Rattle.runs.specs.Search.{unsafe, safe, open_yet, verdict, Reached}
 use Rattle.runs.specs.Search as search
@@ -17,7 +20,9 @@ use Rattle.runs.specs.Systems.{Breaking}
 use Rattle.runs.specs.Verdicts.{Safe, Unsafe}
 use Rattle.runs.proofs.Traces as runs
 use Rattle.runs.proofs.Verdicts.{verdicts}
+use Rattle.uses.specs.Uses.{room}
 use Rattle.uses.proofs.Uses.{closed}
+use Rattle.uses.proofs.Determined.{one_item, not_stopped}
 use Rattle.job.specs.Frames.{Parts, frame}
 use Rattle.job.specs.declared.fault.Fault.{Fault as Unframed}
 use Rattle.decide.specs.declared.fault.Fault.{Fault}
@@ -26,7 +31,8 @@ use Rattle.decide.specs.declared.report.Report.{Report}
 use Rattle.decide.specs.declared.report.Report.TheVariants as report
 use Rattle.decide.specs.declared.trace.Trace.{Trace}
 use Rattle.decide.specs.Traces.{depth_of, none, state_at, input_at}
-use Rattle.decide.specs.Reports.{Job, Searched, begun, advanced, insides, Traced, Reports, unframed, unfit, load_full, advance_full, found_safe, found_unsafe, Full, full, Only, Accepted, Broken}
+use Rattle.decide.specs.Outcomes.{Job, Searched, begun, advanced, insides, Traced}
+use Rattle.decide.specs.Reports.{Reports, unframed, unfit, load_full, advance_full, found_safe, found_unsafe, Only, Accepted, Broken}
 use Rattle.decide.specs.Searches.{Conclusion, is_safe, is_unsafe}
 
 module _ {m : Model} {s : Shown} where
@@ -75,28 +81,105 @@ module _ {m : Model} {s : Shown} where
   one_conclusion f g (is_unsafe {x = x} e o h) (is_unsafe {x = y} e' o' h') =
       ap (report.Unsafe (sizes m.circuit)) (one_trace y x g o' e' (e ∙ one_depth f g (not_open_unsafe o) (not_open_unsafe o')) h' h)
 
+-- the calls of a load and of the first j advances
+abbrev calls : Model → ℕ → List Item
+calls m zero = load_list m
+calls m (suc j) = calls m j ++ advance_list m j
+
+-- those of more advances go on from them
+calls_more : (m : Model) (i j : ℕ) → i ≤ j → (rest : List Item) × (calls m j ≡ calls m i ++ rest)
+calls_more m i zero l = let e : i ≡ 0 = omega arith in ([], ap (calls m) (sym e) ∙ sym (append-nil (calls m i)))
+calls_more m i (suc j) l = ⊎_elim
+    (λ e. ([], ap (calls m) (sym e) ∙ sym (append-nil (calls m i))))
+    (λ h.
+    let p = calls_more m i j (down h) in
+    (p.0 ++ advance_list m j, ap (λ l. l ++ advance_list m j) p.1 ∙ append_assoc (calls m i) p.0 (advance_list m j)))
+    (eq-or-lt_of_le l)
+  where
+    down : i < suc j → i ≤ j
+    down h = omega arith
+
+all_made : {m : Model} {s : Shown} {j : ℕ} {t : Shown} → Searched m s j t → Runs s (calls m j) t
+all_made (begun r) = r
+all_made (advanced f o r) = runs_join (all_made f) r
+
+not_open : {m : Model} {j : ℕ} {r : Report} → Conclusion m j r → verdict (system m) j ≡ open_yet → ⊥
+not_open (is_safe o) h = not_open_safe o h
+not_open (is_unsafe e o x) h = not_open_unsafe o h
+
+module _ (m : Model) (s : Shown) where
+  -- a call of these was refused, after advances from open verdicts
+  record Halted (t : Shown) (y : Item) : Type 0 where
+    pub depth : ℕ
+    pub open_before : Reached (system m) depth
+    pub stops : Stops s (calls m depth) y t
+
+  halted_load : {t : Shown} {y : Item} → Stops s (load_list m) y t → Halted t y
+  halted_load q = record { depth = 0; open_before = λ i l. absurd (omega arith); stops = q }
+
+  halted_advance : {j : ℕ} {t u : Shown} {y : Item} → Searched m s j t → verdict (system m) j ≡ open_yet → Stops t (advance_list m j) y u → Halted u y
+  halted_advance {j = j} f o q = record {
+    depth = suc j;
+    open_before = λ i l. ⊎_elim (λ e. subst (λ k. verdict (system m) k ≡ open_yet) (sym e) o) (reached f i) (eq-or-lt_of_le (down i l));
+    stops = stops_after (all_made f) q;
+  }
+    where
+      down : (i : ℕ) → i < suc j → i ≤ j
+      down i l = omega arith
+
+  -- the list of one refusal is the start of the other's
+  longer : {t : Shown} {y : Item} (i j : ℕ) → i ≤ j → Stops s (calls m i) y t → Stops s (calls m j) y t
+  longer {t = t} {y = y} i j l q =
+      let p = calls_more m i j l in
+      subst (λ l. Stops s l y t) (sym p.1) (stops_before p.0 q)
+
+  one_halt : {t : Shown} {x y : Item} → Halted t x → Halted t y → x ≡ y
+  one_halt {t = t} {x = x} {y = y} a b = ⊎_elim
+      (λ l. one_item refl (longer a.depth b.depth (below a.depth b.depth l) a.stops) b.stops)
+      (λ l. one_item refl a.stops (longer b.depth a.depth l b.stops))
+      (cases_lt a.depth b.depth)
+    where
+      below : (i j : ℕ) → i < j → i ≤ j
+      below i j l = omega arith
+
+  -- a search that settled was refused nothing
+  not_halted : {t : Shown} {y : Item} {j : ℕ} → Searched m s j t → (verdict (system m) j ≡ open_yet → ⊥) → Halted t y → ⊥
+  not_halted {j = j} f n a = ⊎_elim
+      (λ l. n (a.open_before j l))
+      (λ l. not_stopped refl (all_made f) (longer a.depth j l a.stops))
+      (cases_lt j a.depth)
+
 module _ (s : Shown) (bs : List ℕ) where
-  -- what the checks of a job lead to, unless there is no room
-  abbrev Follows : Result Model Misdescription → Report → Type 0
-  Follows (Ok m) r = (j : ℕ) × (t : Shown) × Searched m s j t × Conclusion m j r
-  Follows (Err e) r = r ≡ report.Refused (Call (Description e))
+  -- what the checks of a job lead to
+  data Way (m : Model) (t : Shown) : Report → Type 0 where
+    halts : {y : Item} → Halted m s t y → Way m t (report.Refused (Call (room y t)))
+    settles : {j : ℕ} {r : Report} → Searched m s j t → Conclusion m j r → Way m t r
 
-  data Way (r : Report) : Type 0 where
-    no_room : Full r → Way r
-    no_frame : {e : Unframed} → frame bs ≡ Err e → r ≡ report.Refused (Frame e) → Way r
-    framed : {p : Parts} {x : Result Model Misdescription} → frame bs ≡ Ok p → Checked s.vars p.circuit p.assumption p.property x → Follows x r → Way r
+  abbrev Follows : Result Model Misdescription → Shown → Report → Type 0
+  Follows (Ok m) t r = Way m t r
+  Follows (Err e) t r = r ≡ report.Refused (Call (Description e))
 
-  way : {r : Report} → Reports s bs r → Way r
-  way (unframed e) = no_frame e refl
-  way (unfit f k) = framed f k refl
-  way (load_full j q) = no_room full
-  way (advance_full j f o q) = no_room full
-  way (found_safe {j = j} {t = t} w f o) = framed w.framed (right w.describes) (j, t, f, is_safe o)
-  way (found_unsafe {t = t} {x = x} w f o h) = framed w.framed (right w.describes) (depth_of x, t, f, is_unsafe refl o h)
+  data Comes (t : Shown) (r : Report) : Type 0 where
+    no_frame : {e : Unframed} → frame bs ≡ Err e → r ≡ report.Refused (Frame e) → Comes t r
+    framed : {p : Parts} {x : Result Model Misdescription} → frame bs ≡ Ok p → Checked s.vars p.circuit p.assumption p.property x → Follows x t r → Comes t r
 
-  one_follows : (x : Result Model Misdescription) {r r' : Report} → Follows x r → Follows x r' → r' ≡ r
-  one_follows (Ok m) (j, t, f, h) (k, u, g, h') = one_conclusion f g h h'
-  one_follows (Err e) a b = b ∙ sym a
+  comes : {t : Shown} {r : Report} → Reports s bs r t → Comes t r
+  comes (unframed e) = no_frame e refl
+  comes (unfit f k) = framed f k refl
+  comes (load_full w q) = framed w.framed (right w.describes) (halts (halted_load _ s q))
+  comes (advance_full w f o q) = framed w.framed (right w.describes) (halts (halted_advance _ s f o q))
+  comes (found_safe w f o) = framed w.framed (right w.describes) (settles f (is_safe o))
+  comes (found_unsafe w f o h) = framed w.framed (right w.describes) (settles f (is_unsafe refl o h))
+
+  one_way : {m : Model} {t : Shown} {r r' : Report} → Way m t r → Way m t r' → r' ≡ r
+  one_way {m = m} {t = t} (halts a) (halts b) = ap (λ y. report.Refused (Call (room y t))) (one_halt m s b a)
+  one_way (halts a) (settles g h) = absurd (not_halted _ s g (not_open h) a)
+  one_way (settles f h) (halts b) = absurd (not_halted _ s f (not_open h) b)
+  one_way (settles f h) (settles g k) = one_conclusion f g h k
+
+  one_follows : (x : Result Model Misdescription) (t : Shown) {r r' : Report} → Follows x t r → Follows x t r' → r' ≡ r
+  one_follows (Ok m) t a b = one_way a b
+  one_follows (Err e) t a b = b ∙ sym a
 
   one_fault : {a b : Unframed} → frame bs ≡ Err a → frame bs ≡ Err b → b ≡ a
   one_fault e e' = cc
@@ -104,20 +187,17 @@ module _ (s : Shown) (bs : List ℕ) where
   one_parts : {p p' : Parts} → frame bs ≡ Ok p → frame bs ≡ Ok p' → p ≡ p'
   one_parts e e' = cc
 
-  one : {r r' : Report} → Way r → Way r' → (r' ≡ r) ⊎ (Full r ⊎ Full r')
-  one (no_room h) b = inr (inl h)
-  one (no_frame e h) (no_room k) = inr (inr k)
-  one (no_frame e h) (no_frame e' h') = inl (h' ∙ ap (λ i. report.Refused (Frame i)) (one_fault e e') ∙ sym h)
+  one : {t : Shown} {r r' : Report} → Comes t r → Comes t r' → r' ≡ r
+  one (no_frame e h) (no_frame e' h') = h' ∙ ap (λ i. report.Refused (Frame i)) (one_fault e e') ∙ sym h
   one (no_frame e h) (framed f k l) = never (cc)
-  one (framed f k l) (no_room h) = inr (inr h)
   one (framed f k l) (no_frame e h) = never (cc)
-  one {r = r} (framed {x = x} f k l) (framed {x = y} f' k' l') =
+  one {t = t} {r = r} (framed {x = x} f k l) (framed {x = y} f' k' l') =
       let p = one_parts f f' in
       let e : x ≡ y = one_check (subst (λ (p : Parts). Checked s.vars p.circuit p.assumption p.property x) p k) k' in
-      inl (one_follows y (subst (λ x. Follows x r) e l) l')
+      one_follows y t (subst (λ x. Follows x t r) e l) l'
 
-  pub only : (r : Report) → Reports s bs r → Only s bs r
-  only r a r' b = one (way a) (way b)
+  pub only : (r : Report) (t : Shown) → Reports s bs r t → Only s bs r t
+  only r t a other b = one (comes a) (comes b)
 
   refused : {e : Fault} → Accepted s bs (report.Refused e) × Broken s bs (report.Refused e)
   refused = (λ z i c is. never (cc), λ z x is. never (cc))
@@ -129,7 +209,7 @@ module _ (s : Shown) (bs : List ℕ) where
   same_run e = cc
 
   -- what is accepted is safe, and what is called unsafe is broken by the run that is shown
-  pub said : {r : Report} → Reports s bs r → Accepted s bs r × Broken s bs r
+  pub said : {r : Report} {t : Shown} → Reports s bs r t → Accepted s bs r × Broken s bs r
   said (unframed e) = refused
   said (unfit f k) = refused
   said (load_full j q) = refused

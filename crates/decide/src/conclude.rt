@@ -1,24 +1,25 @@
 // What a settled search has come to.
-ghost use Rattle.std.specs.Prelude.{◌≤◌};
+ghost use Rattle.std.specs.Prelude.{◌≡◌, ◌≤◌};
 ghost use Rattle.circuit.specs.declared.TheConstants.{MOST_REGISTERS};
 ghost use Rattle.circuit.specs.Files.{registers};
 ghost use Rattle.engine.specs.Keeping.{world};
 ghost use Rattle.decide.specs.Searches.{CountsInside, HandsOut, Concludes};
 
 use super::report::Report;
-use super::settled::{Depth, Settled};
 use super::trace::Trace;
 use circuit::sizes_at;
 use engine::search::MOST_STEPS;
 use engine::session::Session;
-use store::Store;
+use engine::settled::{Depth, Settled};
 use uses::fault::Fault;
+use store::Store;
 
 // How many of the states are inside. A bound on the registers is asked for here and in `engine` and `making`: they come of a file, of a circuit or of a list,
 // and a type for them would be made anew in each place.
 fn count_inside<S: Store>(session: &mut Session<S>, registers: u16) -> Result<u16, Fault>
     requires { registers ≤ MOST_REGISTERS }
-    ensures { CountsInside (world S.Store.shows session.old) registers result }
+    ensures same { world S.Store.shows session.new ≡ world S.Store.shows session.old }
+    ensures counts { CountsInside (world S.Store.shows session.old) registers result }
 {
     let mut count = 0;
     // A `for`: of a sum of results the library says nothing, and a `try_fold` needs a clause on its closure, that the sum fits,
@@ -30,7 +31,8 @@ fn count_inside<S: Store>(session: &mut Session<S>, registers: u16) -> Result<u1
 }
 
 fn read_trace<S: Store>(session: &mut Session<S>, depth: Depth) -> Result<Trace, Fault>
-    ensures { HandsOut (world S.Store.shows session.old) depth.advances result }
+    ensures same { world S.Store.shows session.new ≡ world S.Store.shows session.old }
+    ensures hands_out { HandsOut (world S.Store.shows session.old) depth.advances result }
 {
     // Two arrays, by the rule of the call: a session fills two that are lent.
     let mut states = [0; MOST_STEPS];
@@ -47,7 +49,8 @@ pub(crate) fn conclude<S: Store>(
     settled: Settled,
 ) -> Result<Report, Fault>
     requires { registers file.now ≤ MOST_REGISTERS }
-    ensures { Concludes (world S.Store.shows session.old) file.now settled result }
+    ensures same { world S.Store.shows session.new ≡ world S.Store.shows session.old }
+    ensures concludes { Concludes (world S.Store.shows session.old) file.now settled result }
 {
     let sizes = sizes_at(file);
     match settled {

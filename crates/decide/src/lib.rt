@@ -3,12 +3,12 @@
 
 ghost use Rattle.decide.specs.Reports.{Reports, Only, Accepted, Broken};
 ghost use Rattle.decide.specs.Searches.{reported};
+ghost use Rattle.engine.specs.Keeping.{world, Keeps};
+ghost use Rattle.uses.specs.Calls.{empty};
 
 mod conclude;
 pub mod fault;
 pub mod report;
-pub mod search;
-pub mod settled;
 pub mod text;
 pub mod trace;
 
@@ -17,25 +17,27 @@ use engine::session::Session;
 use fault::Fault;
 use job::split;
 use report::Report;
-use search::settle;
 use store::Store;
 
-fn run<S: Store + Drop>(job: &[u8], store: S) -> Result<Report, Fault>
-    ensures { Reports (S.Store.shows store) job.now (reported result) }
+/// What is to be said of a job, whatever its bytes, by a search in the store; and the store, which is handed back with what it then holds.
+pub fn report_on<S: Store>(job: &[u8], store: S) -> (Report, S)
+    ensures right { Reports (S.Store.shows store) job.now result.0 (S.Store.shows result.1) }
+    ensures only { Only (S.Store.shows store) job.now result.0 (S.Store.shows result.1) }
+    ensures accepted { Accepted (S.Store.shows store) job.now result.0 }
+    ensures broken { Broken (S.Store.shows store) job.now result.0 }
 {
-    let source = split(job)?;
     let mut session = Session::new(store);
-    session.load(source)?;
-    let settled = settle(&mut session)?;
-    Ok(conclude(&mut session, source.circuit, settled)?)
+    let report = run(job, &mut session).unwrap_or_else(Report::Refused);
+    (report, session.into_store())
 }
 
-// What is to be said of a job, whatever its bytes, by a search in the store.
-pub fn report_on<S: Store + Drop>(job: &[u8], store: S) -> Report
-    ensures right { Reports (S.Store.shows store) job.now result }
-    ensures only { Only (S.Store.shows store) job.now result }
-    ensures accepted { Accepted (S.Store.shows store) job.now result }
-    ensures broken { Broken (S.Store.shows store) job.now result }
+// What a session that is empty comes to.
+fn run<S: Store>(job: &[u8], session: &mut Session<S>) -> Result<Report, Fault>
+    requires { Keeps empty (world S.Store.shows session.now) }
+    ensures { Reports (world S.Store.shows session.old).store job.now (reported result) (world S.Store.shows session.new).store }
 {
-    run(job, store).unwrap_or_else(Report::Refused)
+    let source = split(job)?;
+    session.load(source)?;
+    let settled = session.settle()?;
+    Ok(conclude(session, source.circuit, settled)?)
 }

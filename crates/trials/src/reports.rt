@@ -11,7 +11,7 @@ use std::test::Fail;
 fn text_of(heap: Global, job: &[u8], records: usize) -> Result<String, AllocError> {
     let mut nodes = vec![in heap; Node::default(); records]?;
     let mut links = vec![in heap; 0; records]?;
-    let report = report_on(job, Diagram::new(24, &mut nodes, &mut links));
+    let (report, _) = report_on(job, Diagram::new(24, &mut nodes, &mut links));
     format!(in heap; "{report}")
 }
 

@@ -1,11 +1,10 @@
 // Sessions over every make of store and layers over them.
-use decide::search::settle;
-use decide::settled::Settled;
 use description::notice::Notice;
 use description::part::Part;
 use description::source::Source;
 use diagram::Diagram;
 use engine::session::Session;
+use engine::settled::Settled;
 use engine::step::Step;
 use nodes::Node;
 use order::Layer;
@@ -69,7 +68,7 @@ fn steps<S: Store>(session: &mut Session<S>) -> Result<[Step; 4], Fault> {
 fn search<S: Store + Drop>(store: S, source: Source) -> Result<Told, Fault> {
     let mut session = Session::new(store);
     session.load(source)?;
-    match settle(&mut session)? {
+    match session.settle()? {
         Settled::Unsafe(depth) => Ok(Told::Unsafe {
             advances: depth.advances,
             verdict: session.verdict(),

@@ -6,7 +6,7 @@ use Rattle.runs.specs.Search.{inside}
 use Rattle.description.proofs.Checks.{never}
 use Rattle.engine.proofs.Spreads.{shifted}
 use Rattle.engine.specs.Keeping.{world}
-use Rattle.decide.specs.Reports.{tally}
+use Rattle.decide.specs.Outcomes.{tally}
 use Rattle.decide.specs.Searches.{Come}
 use Rattle.decide.proofs.Sessions.{told_by}
 use Rattle.decide.proofs.conclude.count_inside.Goals as goal
@@ -40,15 +40,21 @@ loop-q-preserved g c = (
 )
 
 pub returns-in_err-inside : goal.returns-in_err-inside
-returns-in_err-inside g c s m j k o e =
-    let here = subst (Come s m j) (sym c.loop-q.invariant.0) k in
-    let l : c.loop-q.q < 2 ^ m.circuit.registers = subst (λ i. c.loop-q.q < 2 ^ i) e (subst (λ i. c.loop-q.q < i) (shifted c.args.registers c.requires) c.loop-q-test.true) in
-    let t = told_by s m j _ (world g.S.Store.shows c.inside.new.self) here o c.in_err-inside.ensures.next l in
-    absurd (refused t)
+returns-in_err-inside g c = record {
+  same = c.inside.ensures.same ∙ c.loop-q.invariant.0;
+  counts = λ s m j k o e.
+      let here = subst (Come s m j) (sym c.loop-q.invariant.0) k in
+      let l : c.loop-q.q < 2 ^ m.circuit.registers = subst (λ i. c.loop-q.q < 2 ^ i) e (subst (λ i. c.loop-q.q < i) (shifted c.args.registers c.requires) c.loop-q-test.true) in
+      let t = told_by s m j _ (world g.S.Store.shows c.inside.new.self) here o c.in_err-inside.ensures.next l in
+      absurd (refused t);
+}
 
 pub returns : goal.returns
-returns g c s m j k o e =
-    let q : c.loop-q.q ≡ 2 ^ m.circuit.registers =
-    let p = shifted c.args.registers c.requires in
-    let l : c.loop-q.q ≡ 2 ^ c.args.registers = omega arith in l ∙ ap (λ i. 2 ^ i) e in
-    ap Ok (c.loop-q.invariant.2 s m j k o e ∙ ap (λ i. tally i (inside (system m) j)) q)
+returns g c = record {
+  same = c.loop-q.invariant.0;
+  counts = λ s m j k o e.
+      let q : c.loop-q.q ≡ 2 ^ m.circuit.registers =
+      let p = shifted c.args.registers c.requires in
+      let l : c.loop-q.q ≡ 2 ^ c.args.registers = omega arith in l ∙ ap (λ i. 2 ^ i) e in
+      ap Ok (c.loop-q.invariant.2 s m j k o e ∙ ap (λ i. tally i (inside (system m) j)) q);
+}

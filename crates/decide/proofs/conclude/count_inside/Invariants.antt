@@ -3,7 +3,7 @@ use Rattle.store.specs.Meaning.{Shown}
 use Rattle.runs.specs.Models.{Model, system}
 use Rattle.runs.specs.Search.{safe, verdict, inside}
 use Rattle.engine.specs.Keeping.{world}
-use Rattle.decide.specs.Reports.{tally}
+use Rattle.decide.specs.Outcomes.{tally}
 use Rattle.decide.specs.Searches.{Come}
 use Rattle.decide.proofs.conclude.count_inside.Given as goal
 
