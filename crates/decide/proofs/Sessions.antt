@@ -1,5 +1,5 @@
 -- What one call of a session gives, where some use led to it.
-use Rattle.std.proofs.Common.{◌≡◌, ℕ, suc, ◌^◌, ◌<◌, ◌≤◌, Bool, List, [], ◌∷◌, ◌++◌, length, Ok, Err, Result, sym, refl, ap₂, subst, arith, MatchResult}
+use Rattle.std.proofs.Common.{◌≡◌, ℕ, suc, ◌^◌, ◌<◌, ◌≤◌, Bool, List, [], ◌++◌, length, Ok, Err, Result, sym, refl, ap₂, subst, arith, MatchResult}
 use Rattle.store.specs.Meaning.{Shown}
 use Rattle.description.specs.Checks.{Checked, right}
 use Rattle.description.specs.declared.fault.Fault.{Fault as Misdescription}
@@ -11,7 +11,7 @@ use Rattle.runs.specs.Models.{Model, system, Describes}
 use Rattle.runs.specs.Search.{unsafe, safe, open_yet, verdict}
 use Rattle.runs.specs.Search as search
 use Rattle.uses.specs.declared.verdict.Verdict.{Verdict}
-use Rattle.uses.specs.Calls.{State, empty, loaded, load, advance, trace, inside, Stand, stand, Event, event, written}
+use Rattle.uses.specs.Calls.{State, empty, loaded, load, advance, trace, inside, Stand, stand, Event, written}
 use Rattle.uses.specs.Uses.{room, Step, load_wrong, load_full, loads, advance_empty, advance_settled, advance_full, advances, trace_verdict, trace_short, traces, inside_verdict, inside_state, insides, Use}
 use Rattle.uses.specs.Uses as uses
 use Rattle.uses.proofs.Told.{never}
