@@ -11,8 +11,8 @@ use circuit::sizes_at;
 use engine::search::MOST_STEPS;
 use engine::session::Session;
 use engine::settled::{Depth, Settled};
-use uses::fault::Fault;
 use store::Store;
+use uses::fault::Fault;
 
 // How many of the states are inside. A bound on the registers is asked for here and in `engine` and `making`: they come of a file, of a circuit or of a list,
 // and a type for them would be made anew in each place.
