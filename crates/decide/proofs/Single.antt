@@ -12,6 +12,7 @@ use Rattle.description.proofs.Checks.{never, one_check}
 use Rattle.uses.specs.declared.fault.Fault.TheVariants.{Description}
 use Rattle.making.specs.Making.{Item, Runs, Stops}
 use Rattle.making.specs.Loads.{load_list, advance_list}
+use Rattle.making.proofs.Bounds.{one_way, one_stop}
 use Rattle.making.proofs.Steps.{runs_join, stops_after, stops_before}
 use Rattle.runs.specs.Models.{Model, system, sizes}
 use Rattle.runs.specs.Search.{unsafe, safe, open_yet, verdict, Reached}
@@ -22,7 +23,6 @@ use Rattle.runs.proofs.Traces as runs
 use Rattle.runs.proofs.Verdicts.{verdicts}
 use Rattle.uses.specs.Uses.{room}
 use Rattle.uses.proofs.Uses.{closed}
-use Rattle.uses.proofs.Determined.{one_item, not_stopped}
 use Rattle.job.specs.Frames.{Parts, frame}
 use Rattle.job.specs.declared.fault.Fault.{Fault as Unframed}
 use Rattle.decide.specs.declared.fault.Fault.{Fault}
@@ -135,8 +135,8 @@ module _ (m : Model) (s : Shown) where
 
   one_halt : {t : Shown} {x y : Item} → Halted t x → Halted t y → x ≡ y
   one_halt {t = t} {x = x} {y = y} a b = ⊎_elim
-      (λ l. one_item refl (longer a.depth b.depth (below a.depth b.depth l) a.stops) b.stops)
-      (λ l. one_item refl a.stops (longer b.depth a.depth l b.stops))
+      (λ l. one_stop (longer a.depth b.depth (below a.depth b.depth l) a.stops) b.stops)
+      (λ l. one_stop a.stops (longer b.depth a.depth l b.stops))
       (cases_lt a.depth b.depth)
     where
       below : (i j : ℕ) → i < j → i ≤ j
@@ -146,7 +146,7 @@ module _ (m : Model) (s : Shown) where
   not_halted : {t : Shown} {y : Item} {j : ℕ} → Searched m s j t → (verdict (system m) j ≡ open_yet → ⊥) → Halted t y → ⊥
   not_halted {j = j} f n a = ⊎_elim
       (λ l. n (a.open_before j l))
-      (λ l. not_stopped refl (all_made f) (longer a.depth j l a.stops))
+      (λ l. one_way (all_made f) (longer a.depth j l a.stops))
       (cases_lt j a.depth)
 
 module _ (s : Shown) (bs : List ℕ) where
@@ -171,14 +171,14 @@ module _ (s : Shown) (bs : List ℕ) where
   comes (found_safe w f o) = framed w.framed (right w.describes) (settles f (is_safe o))
   comes (found_unsafe w f o h) = framed w.framed (right w.describes) (settles f (is_unsafe refl o h))
 
-  one_way : {m : Model} {t : Shown} {r r' : Report} → Way m t r → Way m t r' → r' ≡ r
-  one_way {m = m} {t = t} (halts a) (halts b) = ap (λ y. report.Refused (Call (room y t))) (one_halt m s b a)
-  one_way (halts a) (settles g h) = absurd (not_halted _ s g (not_open h) a)
-  one_way (settles f h) (halts b) = absurd (not_halted _ s f (not_open h) b)
-  one_way (settles f h) (settles g k) = one_conclusion f g h k
+  same_report : {m : Model} {t : Shown} {r r' : Report} → Way m t r → Way m t r' → r' ≡ r
+  same_report {m = m} {t = t} (halts a) (halts b) = ap (λ y. report.Refused (Call (room y t))) (one_halt m s b a)
+  same_report (halts a) (settles g h) = absurd (not_halted _ s g (not_open h) a)
+  same_report (settles f h) (halts b) = absurd (not_halted _ s f (not_open h) b)
+  same_report (settles f h) (settles g k) = one_conclusion f g h k
 
   one_follows : (x : Result Model Misdescription) (t : Shown) {r r' : Report} → Follows x t r → Follows x t r' → r' ≡ r
-  one_follows (Ok m) t a b = one_way a b
+  one_follows (Ok m) t a b = same_report a b
   one_follows (Err e) t a b = b ∙ sym a
 
   one_fault : {a b : Unframed} → frame bs ≡ Err a → frame bs ≡ Err b → b ≡ a
