@@ -6,8 +6,9 @@ use records::Full;
 use store::refusal::Refusal;
 
 impl Diagram<'_> {
-    // What was made, or, where the records ran out, the refusal: only the first `used` nodes stay. Where there are others, the memo may
-    // have their numbers, so it is emptied; a refusal before any was added costs no walk over memo and chains.
+    // What was made, or, where the records ran out, the refusal: only the first `used` nodes stay. Where there are
+    // others, the memo may have their numbers, so it is emptied; a refusal before any was added walks over neither
+    // memo nor chains.
     pub(super) fn finish(&mut self, used: usize, made: Result<u16, Full>) -> Result<u16, Refusal>
         ensures { Finishes self.old self.new used made result }
     {

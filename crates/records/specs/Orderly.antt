@@ -10,5 +10,12 @@ filed xs i = min (limit i) (length xs)
 
 pub record Orderly {T : Type 0} (eq : T → T → Bool) (hash : T → ℕ) (xs : List T) (i : Index) : Type 0 where
   pub below : (b : ℕ) → b < buckets → slice_index i.heads b ≤ filed xs i
-  pub chained : (k : ℕ) (x : T) → k < filed xs i → slice_get xs k ≡ Some x → Chained i.links.now (slice_index i.heads (hash x % buckets)) k
-  pub once : (j k : ℕ) (x y : T) → slice_get xs j ≡ Some x → slice_get xs k ≡ Some y → eq x y ≡ true → j ≡ k
+  pub chained : (k : ℕ) (x : T)
+      → k < filed xs i
+      → slice_get xs k ≡ Some x
+      → Chained i.links.now (slice_index i.heads (hash x % buckets)) k
+  pub once : (j k : ℕ) (x y : T)
+      → slice_get xs j ≡ Some x
+      → slice_get xs k ≡ Some y
+      → eq x y ≡ true
+      → j ≡ k

@@ -24,8 +24,8 @@ module _ {T : Type 0} (eq : T → T → Bool) where
   abbrev pub Added : List T → ℕ → T → ℕ → List T → Type 0
   Added xs room x i ys = (i ≡ length xs) × (length xs < room) × (ys ≡ xs ++ x ∷ [])
 
-  -- what the look-up of x in the entries xs answers, by how many there can be, and the entries that then stand, ys: the lowest place
-  -- of an equal entry, or where x was added; or that none stands anywhere, and no record is left
+  -- what the look-up of x in the entries xs answers, by how many there can be, and the entries that then stand, ys:
+  -- the lowest place of an equal entry, or where x was added; or that none stands anywhere, and no record is left
   abbrev pub Answers : List T → ℕ → T → Result ℕ Full → List T → Type 0
   Answers xs room x (Ok i) ys = Absent xs i x × (Found xs x i ys ⊎ Added xs room x i ys)
   Answers xs room x (Err _) ys = (length xs ≡ room) × Absent xs (length xs) x × (ys ≡ xs)
@@ -41,5 +41,6 @@ module _ {T : Type 0} (eq : T → T → Bool) where
   Finds xs x None = Absent xs (length xs) x
 
 -- the list l looks x up, answers r, and is then m
-abbrev pub Places : {T : Type 0} {e : entry.Ghosts T} {p : eq.Ghosts T} → Records T e p → T → Result ℕ Full → Records T e p → Type 0
+abbrev pub Places : {T : Type 0} {e : entry.Ghosts T} {p : eq.Ghosts T}
+    → Records T e p → T → Result ℕ Full → Records T e p → Type 0
 Places {p} l x r m = Answers p.eq (entries l) (room l) x r (entries m) × (room m ≡ room l)

@@ -6,7 +6,8 @@ ghost use Rattle.std.specs.Prelude.{◌≡◌, ℕ, true};
 pub trait Entry: Eq + Drop {
     ghost hashed: { Self → ℕ } = { λ _. 0 };
 
-    /// By which the entry is found faster: it serves well where unequal entries seldom agree in its last 14 bits. A kind that has none answers 0.
+    /// By which the entry is found faster: it serves well where unequal entries seldom agree in its last 14 bits.
+    /// A kind that has none answers 0.
     // No body says so here: it would be proved for every `hashed`.
     // No `Hash` of the library: a hasher to take it would say the same in more lines.
     fn hash(&self) -> u16

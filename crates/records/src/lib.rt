@@ -108,7 +108,8 @@ impl<'a, T: Entry> List<'a, T> {
     // The place of an equal entry that is past those on chains.
     #[inline(always)]
     fn past_chains(&self, item: &T) -> Option<usize>
-        ensures { Among T.PartialEq.eq (entries self.now) item.now (filed (entries self.now) self.now.index) (length (entries self.now)) result }
+        ensures { let xs = entries self.now in
+            Among T.PartialEq.eq xs item.now (filed xs self.now.index) (length xs) result }
     {
         let filed = self.filed();
         let place = position(&self.as_slice()[filed..], item)?;

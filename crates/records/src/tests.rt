@@ -1,4 +1,5 @@
-// A list of entries that have less than nodes and tables have: two that are equal can differ, none is copied, and there is no hash.
+// A list of entries that have less than nodes and tables have: two that are equal can differ, none is copied, and
+// there is no hash.
 ghost use Rattle.std.specs.Prelude.{refl};
 
 use crate::entry::Entry;
