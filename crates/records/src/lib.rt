@@ -13,8 +13,6 @@ ghost use Rattle.records.specs.Placing.{Among, Finds, Places};
 pub mod entry;
 mod index;
 mod list;
-#[cfg(test)]
-mod tests;
 
 use entry::Entry;
 use index::{BUCKETS, Index};
@@ -150,3 +148,6 @@ impl<'a, T: Entry> List<'a, T> {
         Ok(end)
     }
 }
+
+#[cfg(test)]
+mod tests;
