@@ -8,8 +8,9 @@ use Rattle.description.specs.declared.part.Part.{Part}
 use Rattle.making.specs.declared.fault.Fault.TheVariants.{Room}
 use Rattle.making.specs.Making.{Item, Runs, Stops}
 use Rattle.making.specs.Loads.{load_list, advance_list}
-use Rattle.making.proofs.Bounds.{stops_bound, stops_above}
-use Rattle.making.proofs.Lengths.{load_length, advance_length}
+use Rattle.making.proofs.Bounds.{runs_held, stops_bound, stops_above}
+use Rattle.making.specs.Bounds.{load_bound, advance_bound}
+use Rattle.making.proofs.Lengths.{load_texts, advance_length}
 use Rattle.runs.specs.Systems.{Breaking}
 use Rattle.runs.specs.Search as search
 use Rattle.runs.specs.Verdicts.{Unsafe, Meaning}
@@ -23,10 +24,9 @@ use Rattle.uses.specs.declared.verdict.Verdict.{Verdict}
 use Rattle.uses.specs.Uses.{Step, load_twice, load_wrong, load_full, loads, advance_empty, advance_settled}
 use Rattle.uses.specs.Uses.{advance_full, advances, asks, trace_empty, trace_verdict, trace_short, traces}
 use Rattle.uses.specs.Uses.{inside_empty, inside_verdict, inside_state, insides, Use, begun, went_on}
-use Rattle.uses.specs.Fair.{load_bound, advance_bound, AllMade, ShortOf, Fair}
+use Rattle.uses.specs.Fair.{AllMade, ShortOf, Fair}
 use Rattle.uses.specs.Says.{Meant, Says, Accepted}
 use Rattle.uses.specs.Promise.{Promised}
-use Rattle.claim.proofs.Lengths.{read_operators}
 use Rattle.uses.proofs.Told.{never, tell_not_empty, tell_safe, tell_open, tell_unsafe}
 use Rattle.uses.proofs.Written.{written_at, breaking_like}
 use Rattle.uses.proofs.Unchanged.{same_but, same_arrays}
@@ -49,16 +49,13 @@ short_of {s = s} {y = y} bound q h = record {
 }
 
 all_made : {s t : Shown} {l : List Item} (bound : ℕ) → Runs s l t → length l ≤ bound → AllMade s t l bound
-all_made bound r h = record { runs = r; few = h }
+all_made bound r h = record { runs = r; held = runs_held r; few = h }
 
 load_calls :
     {width : ℕ} {x a p : List ℕ} {m : Model}
     → Checked width x a p (Ok m)
     → length (load_list m) ≤ load_bound m (length a) (length p)
-load_calls {m = m} (right d) =
-    let a = read_operators d.assumption in
-    let p = read_operators d.property in
-    omega (arith, load_length m)
+load_calls {m = m} (right d) = load_texts m d.assumption d.property
 
 load_accepted :
     {w v : Stand} {x a p : List ℕ} {r : Verdict}

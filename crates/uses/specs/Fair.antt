@@ -1,11 +1,12 @@
 -- What one call of a use was.
-use Rattle.std.specs.Prelude.{◌≡◌, ℕ, suc, ◌+◌, ◌*◌, ◌<◌, ◌≤◌, false, List, length, Some, Ok, Err, slice_index}
+use Rattle.std.specs.Prelude.{◌≡◌, ℕ, suc, ◌*◌, ◌<◌, ◌≤◌, false, List, length, Some, Ok, Err, slice_index}
 use Rattle.store.specs.Meaning.{Shown, Grown, free, price}
 use Rattle.description.specs.Checks.{Checked}
 use Rattle.description.specs.declared.part.Part.{Part}
 use Rattle.making.specs.declared.fault.Fault.TheVariants.{Room}
-use Rattle.making.specs.Making.{Item, Runs, Stops}
+use Rattle.making.specs.Making.{Item, Runs, Stops, Held}
 use Rattle.making.specs.Loads.{load_list, advance_list}
+use Rattle.making.specs.Bounds.{load_bound, advance_bound}
 use Rattle.runs.specs.Models.{Model, system}
 use Rattle.runs.specs.Systems.{Breaking}
 use Rattle.runs.specs.Verdicts.{Unsafe}
@@ -16,16 +17,10 @@ use Rattle.uses.specs.Calls.{loaded, load, advance, trace, Event, answered, is_l
 use Rattle.uses.specs.Uses.{Step}
 use Rattle.uses.specs.Says.{Says}
 
--- how many making calls a load and an advance take at most, a and p the lengths of the texts
-abbrev pub load_bound : Model → ℕ → ℕ → ℕ
-load_bound m a p = 4 * m.circuit.registers + 4 * m.circuit.inputs + 3 * length m.circuit.gates + a + p + 3
-
-abbrev pub advance_bound : Model → ℕ
-advance_bound m = 10 * m.circuit.registers + 3 * m.circuit.inputs + 3
-
 -- each call of this list, of at most `bound` calls, was accepted, and every result is held
 pub record AllMade (before after : Shown) (list : List Item) (bound : ℕ) : Type 0 where
   pub runs : Runs before list after
+  pub held : Held after list
   pub few : length list ≤ bound
 
 -- the store refused a call of this list, whose price exceeded the free units there and then;
