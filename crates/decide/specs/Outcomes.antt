@@ -16,7 +16,8 @@ pub record Job (width : ℕ) (bs : List ℕ) (m : Model) : Type 0 where
   pub framed : frame bs ≡ Ok parts
   pub describes : Describes width parts.circuit parts.assumption parts.property m
 
--- the search has come to B_j and the store to t: it made the list of a load and then of each advance, and every verdict before was open
+-- the search has come to B_j and the store to t: it made the list of a load and then of each advance,
+-- and every verdict before was open
 pub data Searched (m : Model) (s : Shown) : ℕ → Shown → Type 0 where
   begun :
       {t : Shown}

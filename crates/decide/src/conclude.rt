@@ -14,16 +14,16 @@ use engine::settled::{Depth, Settled};
 use store::Store;
 use uses::fault::Fault;
 
-// How many of the states are inside. A bound on the registers is asked for here and in `engine` and `making`: they come of a file, of a circuit or of a list,
-// and a type for them would be made anew in each place.
+// How many of the states are inside. A bound on the registers is asked for here and in `engine` and `making`: they come
+// of a file, of a circuit or of a list, and a type for them would be made anew in each place.
 fn count_inside<S: Store>(session: &mut Session<S>, registers: u16) -> Result<u16, Fault>
     requires { registers ≤ MOST_REGISTERS }
     ensures same { world S.Store.shows session.new ≡ world S.Store.shows session.old }
     ensures counts { CountsInside (world S.Store.shows session.old) registers result }
 {
     let mut count = 0;
-    // A `for`: of a sum of results the library says nothing, and a `try_fold` needs a clause on its closure, that the sum fits,
-    // and then `try_fold-requires-clause-callable` stayed open.
+    // A `for`: of a sum of results the library says nothing, and a `try_fold` needs a clause on its closure, that the
+    // sum fits, and then `try_fold-requires-clause-callable` stayed open.
     for q in 0..1 << registers {
         count += u16::from(session.inside(q)?);
     }

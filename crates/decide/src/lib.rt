@@ -19,7 +19,8 @@ use job::split;
 use report::Report;
 use store::Store;
 
-/// What is to be said of a job, whatever its bytes, by a search in the store; and the store, which is handed back with what it then holds.
+/// What is to be said of a job, whatever its bytes, by a search in the store; and the store, which is handed back
+/// with what it then holds.
 pub fn report_on<S: Store>(job: &[u8], store: S) -> (Report, S)
     ensures right { Reports (S.Store.shows store) job.now result.0 (S.Store.shows result.1) }
     ensures only { Only (S.Store.shows store) job.now result.0 (S.Store.shows result.1) }
@@ -34,7 +35,11 @@ pub fn report_on<S: Store>(job: &[u8], store: S) -> (Report, S)
 // What a session that is empty comes to.
 fn run<S: Store>(job: &[u8], session: &mut Session<S>) -> Result<Report, Fault>
     requires { Keeps empty (world S.Store.shows session.now) }
-    ensures { Reports (world S.Store.shows session.old).store job.now (reported result) (world S.Store.shows session.new).store }
+    ensures { Reports
+        (world S.Store.shows session.old).store
+        job.now
+        (reported result)
+        (world S.Store.shows session.new).store }
 {
     let source = split(job)?;
     session.load(source)?;

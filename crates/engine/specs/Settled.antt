@@ -51,5 +51,8 @@ pub record Stuck (start : Shown) (history : List Event) (from : Stand) (v : Worl
   pub made : List Event
   pub advanced : Advances from made (stand state store)
   pub undecided : Undecided state
-  pub led : Use start (event (stand state store) (advance (Err e)) (stand state v.store) ∷ made ++ history) (stand state v.store)
+  pub led :
+      Use start
+      (event (stand state store) (advance (Err e)) (stand state v.store) ∷ made ++ history)
+      (stand state v.store)
   pub keeps : Keeps state v

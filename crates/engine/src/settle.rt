@@ -33,9 +33,9 @@ impl<S: Store> Session<S> {
         self.search.as_ref()?.settled()
     }
 
-    /// Advances until the verdict is settled, and answers the verdict with all the advances that the session has then accepted.
-    /// A settled session is left as it is. A session that is empty, or whose store has no room, is refused as its advance is,
-    /// and keeps what it came to.
+    /// Advances until the verdict is settled, and answers the verdict with all the advances that the session
+    /// has then accepted. A settled session is left as it is. A session that is empty, or whose store has no room,
+    /// is refused as its advance is, and keeps what it came to.
     pub fn settle(&mut self) -> Result<Settled, Fault>
         ensures { Settles (world S.Store.shows self.old) result (world S.Store.shows self.new) }
     {

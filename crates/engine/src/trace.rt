@@ -58,7 +58,10 @@ impl<S: Store> Session<S> {
     // Fills the starts of both arrays with the states and the inputs of the trace.
     // Two arrays of numbers, and no list of steps: the rule of the call has its caller lend them.
     pub fn trace(&mut self, states: &mut [u16], inputs: &mut [u16]) -> Result<(), Fault>
-        ensures next { Next (world S.Store.shows self.old) (trace states.old inputs.old states.new inputs.new result) (world S.Store.shows self.new) }
+        ensures next { Next
+            (world S.Store.shows self.old)
+            (trace states.old inputs.old states.new inputs.new result)
+            (world S.Store.shows self.new) }
         ensures same { world S.Store.shows self.new ≡ world S.Store.shows self.old }
         ensures spares { Spared self.old.search states.old inputs.old states.new inputs.new }
     {
