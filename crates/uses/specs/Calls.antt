@@ -1,5 +1,5 @@
 -- The five calls of a session with their arguments and answers, and what stands before and after each.
-use Rattle.std.specs.Prelude.{ℕ, Bool, true, false, List, ◌++◌, map, drop, count_by, Ok, Err, Result, is_ok}
+use Rattle.std.specs.Prelude.{ℕ, Bool, true, false, List, ◌++◌, map, drop, count_by, Err, Result, is_ok}
 use Rattle.std.specs.Prelude.{Option, Some, None}
 use Rattle.std.specs.Result.{result_ok}
 use Rattle.std.specs.List.{range_with_len}

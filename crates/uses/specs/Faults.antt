@@ -6,7 +6,8 @@ use Rattle.description.specs.declared.notice.Notice.{Notice}
 use Rattle.description.specs.Faults as description
 use Rattle.making.specs.Faults as making
 use Rattle.uses.specs.declared.fault.Fault.{Fault}
-use Rattle.uses.specs.declared.fault.Fault.TheVariants.{Loaded, Description, Making, Empty, Settled, Verdict, Short, State}
+use Rattle.uses.specs.declared.fault.Fault.TheVariants.{Loaded, Description, Making, Empty}
+use Rattle.uses.specs.declared.fault.Fault.TheVariants.{Settled, Verdict, Short, State}
 
 abbrev pub number_of : Fault → ℕ
 number_of Loaded = 1

@@ -28,8 +28,8 @@ pub enum Fault {
     State,
 }
 
-// Each type of error has its own conversion, into its own case: one for all would take an enum of them, which is this one. By hand, since a
-// clause says which case (`from_gives`), and a derive does not.
+// Each type of error has its own conversion, into its own case: one for all would take an enum of them, which is this
+// one. By hand, since a clause says which case (`from_gives`), and a derive does not.
 impl From<Misdescription> for Fault {
     ghost from_gives = { λ e r. r ≡ of_description e };
 
