@@ -1,2 +1,3 @@
 mod Splits
 mod Joined
+mod Taking

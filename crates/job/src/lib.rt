@@ -5,17 +5,22 @@ ghost use Rattle.std.specs.Prelude.{◌≡◌, ◌↔◌, Ok};
 ghost use Rattle.job.specs.Frames.{Parts, Framed, frame, framed};
 
 pub mod fault;
+mod input;
 
 use circuit::{MOST_GATES, file_length, number_at, sizes_at};
 use description::source::Source;
 use fault::Fault;
+pub use input::read;
 use store::MOST_VARIABLES;
 
 // How many variables the store of a program has.
 pub const VARIABLES: u8 = MOST_VARIABLES;
 
 // The bytes of the longest job: the lengths, the circuit file with the most gates, and two longest texts. Written out, since a constant calls no function.
-pub const LONGEST: u64 = 4 + (6 + 4 * MOST_GATES as u64) + 2 * claim::LONGEST as u64;
+pub const LONGEST: usize = 4 + (6 + 4 * MOST_GATES) + 2 * claim::LONGEST;
+
+/// How many bytes a program reads: one more than the longest job has.
+pub const MOST_BYTES: usize = LONGEST + 1;
 
 /// Cuts a job into the circuit file, the assumption and the property, or refuses its length.
 pub fn split(job: &[u8]) -> Result<Source, Fault>

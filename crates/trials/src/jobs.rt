@@ -72,7 +72,7 @@ fn frames(rt: HostRuntime) {
 // The most gates, and two texts of 512 bytes: `1` and spaces.
 #[test]
 fn longest_job(rt: HostRuntime) -> Result<(), Fail> {
-    let mut job = vec![in rt.alloc(); 0; LONGEST as usize]?;
+    let mut job = vec![in rt.alloc(); 0; LONGEST]?;
     job[0..10].copy_from_slice(&[0, 2, 0, 2, 1, 0, 0, 0, 0, 4]);
     job[4106..5130].fill(b' ');
     job[4106] = b'1';
