@@ -59,43 +59,47 @@ front (a ∷ b ∷ c ∷ d ∷ rest) small l =
     let s : d ≡ (c + 256 * d) / 256 = omega arith in
     λ i. p i ∷ q i ∷ r i ∷ s i ∷ rest
 
--- bytes that pass are joined of what they are cut into
-module _ (bs : List ℕ) (small : IsBytes bs) (l : length bs ≡ total bs) where
-  abbrev pieces : Parts
-  pieces = record {
-    circuit = take (circuit_length bs) (drop 4 bs);
-    assumption = take (assumption_length bs) (drop (4 + circuit_length bs) bs);
-    property = drop (4 + circuit_length bs + assumption_length bs) bs;
-  }
+-- what a job is cut into
+abbrev pieces_of : List ℕ → Parts
+pieces_of bs = record {
+  circuit = take (circuit_length bs) (drop 4 bs);
+  assumption = take (assumption_length bs) (drop (4 + circuit_length bs) bs);
+  property = drop (4 + circuit_length bs + assumption_length bs) bs;
+}
 
-  long_circuit : length pieces.circuit ≡ circuit_length bs
+-- bytes that pass are joined of what they are cut into
+module _ (bs : List ℕ) (l : length bs ≡ total bs) where
+  long_circuit : length (pieces_of bs).circuit ≡ circuit_length bs
   long_circuit = length-take-le (circuit_length bs) (drop 4 bs) (omega (arith, l, length-drop 4 bs))
 
-  long_assumption : length pieces.assumption ≡ assumption_length bs
+  long_assumption : length (pieces_of bs).assumption ≡ assumption_length bs
   long_assumption = length-take-le (assumption_length bs) (drop (4 + circuit_length bs) bs) (omega (arith, l, length-drop (4 + circuit_length bs) bs))
 
-  long_property : length pieces.property ≡ property_length bs
+  long_property : length (pieces_of bs).property ≡ property_length bs
   long_property = omega (arith, l, length-drop (4 + circuit_length bs + assumption_length bs) bs)
 
-  count_is : count pieces.circuit ≡ number_at bs 4
+  count_is : count (pieces_of bs).circuit ≡ number_at bs 4
   count_is = ap₂ (λ x y. x + 256 * y) (get_or-take (circuit_length bs) (drop 4 bs) 4 0 (omega arith)) (get_or-take (circuit_length bs) (drop 4 bs) 5 0 (omega arith)) ∙ count_back bs
 
-  texts_joined : pieces.assumption ++ pieces.property ≡ drop (4 + circuit_length bs) bs
+  texts_joined : (pieces_of bs).assumption ++ (pieces_of bs).property ≡ drop (4 + circuit_length bs) bs
   texts_joined =
-      ap (λ xs. pieces.assumption ++ xs) (sym (drop-drop (assumption_length bs) (4 + circuit_length bs) bs))
+      ap (λ xs. (pieces_of bs).assumption ++ xs) (sym (drop-drop (assumption_length bs) (4 + circuit_length bs) bs))
       ∙ take-append-drop (assumption_length bs) (drop (4 + circuit_length bs) bs)
 
-  rest_joined : pieces.circuit ++ (pieces.assumption ++ pieces.property) ≡ drop 4 bs
+  rest_joined : (pieces_of bs).circuit ++ ((pieces_of bs).assumption ++ (pieces_of bs).property) ≡ drop 4 bs
   rest_joined =
-      ap (λ xs. pieces.circuit ++ xs) (texts_joined ∙ sym (drop-drop (circuit_length bs) 4 bs))
+      ap (λ xs. (pieces_of bs).circuit ++ xs) (texts_joined ∙ sym (drop-drop (circuit_length bs) 4 bs))
       ∙ take-append-drop (circuit_length bs) (drop 4 bs)
 
-  framed_pieces : Framed bs pieces
-  framed_pieces = record {
+  joined_length : length bs ≡ 4 + length (pieces_of bs).circuit + length (pieces_of bs).assumption + length (pieces_of bs).property
+  joined_length = omega (arith, l, long_circuit, long_assumption, long_property)
+
+  framed_pieces : IsBytes bs → Framed bs (pieces_of bs)
+  framed_pieces small = record {
     bytes =
         front bs small (omega (arith, l))
         ∙ sym (ap₂ (λ a p. number_bytes a ++ (number_bytes p ++ drop 4 bs)) long_assumption long_property)
-        ∙ sym (ap (λ xs. number_bytes (length pieces.assumption) ++ (number_bytes (length pieces.property) ++ xs)) rest_joined);
+        ∙ sym (ap (λ xs. number_bytes (length (pieces_of bs).assumption) ++ (number_bytes (length (pieces_of bs).property) ++ xs)) rest_joined);
     circuit = long_circuit ∙ sym (ap (λ k. 6 + 4 * k) count_is);
   }
 
@@ -107,11 +111,22 @@ passed_if : (b : Bool) (x p : Parts) (f : Fault) → cond b (Ok x) (Err f) ≡ O
 passed_if true x p f h = (refl, cc)
 passed_if false x p f h = absurd cc
 
-framed_from : (bs : List ℕ) → IsBytes bs → (p : Parts) → frame bs ≡ Ok p → Framed bs p
-framed_from bs small p h =
+cut_from : (bs : List ℕ) (p : Parts) → frame bs ≡ Ok p → (length bs ≡ total bs) × (pieces_of bs ≡ p)
+cut_from bs p h =
     let long = refused_if (ltb (length bs) 10) _ (Length (length bs)) p h in
     let is = passed_if (eqb (length bs) (total bs)) _ p (Length (length bs)) long in
-    subst (Framed bs) is.1 (framed_pieces bs small (eqb-true _ _ is.0))
+    (eqb-true _ _ is.0, is.1)
+
+framed_from : (bs : List ℕ) → IsBytes bs → (p : Parts) → frame bs ≡ Ok p → Framed bs p
+framed_from bs small p h =
+    let is = cut_from bs p h in
+    subst (Framed bs) is.1 (framed_pieces bs is.0 small)
+
+-- a job is as long as its parts and two numbers
+pub framed_length : (bs : List ℕ) (p : Parts) → frame bs ≡ Ok p → length bs ≡ 4 + length p.circuit + length p.assumption + length p.property
+framed_length bs p h =
+    let is = cut_from bs p h in
+    subst (λ (q : Parts). length bs ≡ 4 + length q.circuit + length q.assumption + length q.property) is.1 (joined_length bs is.0)
 
 pub framed_exactly : (bs : List ℕ) (r : Result Parts Fault) → r ≡ frame bs → IsBytes bs → (p : Parts) → (r ≡ Ok p) ↔ Framed bs p
 framed_exactly bs r e small p = ((λ h. framed_from bs small p (sym e ∙ h)), (λ f. e ∙ ap frame f.bytes ∙ frame_joined p f.circuit))

@@ -1,3 +1,3 @@
 mod Splits
-mod Joined
+pub mod Joined
 mod Taking

@@ -6,6 +6,8 @@ ghost use Rattle.job.specs.Frames.{Parts, Framed, frame, framed};
 
 pub mod fault;
 mod input;
+#[cfg(test)]
+mod tests;
 
 use circuit::{MOST_GATES, file_length, number_at, sizes_at};
 use description::source::Source;
