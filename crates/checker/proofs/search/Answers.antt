@@ -1,10 +1,12 @@
+use Rattle.std.proofs.Common.{rules}
+use Rattle.diagram.specs.Shows.{showing}
 use Rattle.checker.proofs.search.Goals as goal
 
 pub returns : goal.returns
 returns c = record {
-  end = _;
-  reports = c.report_on.ensures.right;
-  only = c.report_on.ensures.only;
-  accepted = c.report_on.ensures.accepted;
-  broken = c.report_on.ensures.broken;
+  end = showing c.report_on-report.result.1.now;
+  reports = search rules;
+  only = search rules;
+  accepted = search rules;
+  broken = search rules;
 }
