@@ -1,5 +1,5 @@
 -- Steps of a list of making calls.
-use Rattle.std.proofs.Common.{◌≡◌, ℕ, ◌+◌, ◌^◌, ◌<◌, ◌≤◌, Bool, true, not, ◌&&◌, ◌||◌, ltb, List, [], ◌∷◌, ◌++◌, IsErrAnd, Ok, Err, Result, sym, refl, ap, ◌∙◌, subst, lt-ltb}
+use Rattle.std.proofs.Common.{◌≡◌, ℕ, ◌+◌, ◌^◌, ◌<◌, ◌≤◌, Bool, true, false, not, ◌&&◌, ◌||◌, ltb, List, [], ◌∷◌, ◌++◌, IsErrAnd, Ok, Err, Result, sym, refl, ap, ◌∙◌, subst, lt-ltb}
 use Rattle.std.proofs.lemmas.Bool.{and_from}
 use Rattle.std.proofs.lemmas.Result.{err_from_is_err_and}
 use Rattle.store.specs.declared.refusal.Refusal.{Refusal}
@@ -59,7 +59,7 @@ pub fix_answers : {s t : Shown} {a i : ℕ} (v : Bool) {f : Fn} {r : Result ℕ 
 fix_answers {s = s} {t = t} {i = i} v {f = f} {r = r} y m l =
     answers_like s t _ (fix i v f) r y.lawful (λ w h. m.same (fixed i v w) (fixed_lt s.vars i v w l h)) (y.answers m.held (lt-ltb i s.vars l))
 
-grown_none : {s : Shown} → Grown s s
+pub grown_none : {s : Shown} → Grown s s
 grown_none = record { vars = refl; capacity = refl; top = refl; tariff = refl; kept = λ a h. (h, (λ w _. refl)) }
 
 pub grown_more : {s t u : Shown} → Grown s t → Grown t u → Grown s u
@@ -73,6 +73,24 @@ grown_more {s = s} g h = record {
       let q = h.kept a p.0 in
       (q.0, (λ w l. q.1 w (subst (λ n. w < 2 ^ n) (sym g.vars) l) ∙ p.1 w l));
 }
+
+grown_same : {s t : Shown} → t ≡ s → Grown s t
+grown_same {s = s} e = subst (Grown s) (sym e) grown_none
+
+-- whatever is asked of a store, nothing that it had is lost
+pub reply_grown : {s t : Shown} {h w : Bool} {f : Fn} {r : Result ℕ Refusal} → Reply s t h w f r → Grown s t
+reply_grown {s = s} {t = t} {h = h} {w = w} {f = f} {r = r} y = by h w refl refl
+  where
+    answered : (r : Result ℕ Refusal) → Answers s t f r → Grown s t
+    answered (Ok a) m = m.grown
+    answered (Err (Room u)) m = grown_same m.0
+    answered (Err Number) m = absurd m
+    answered (Err Variable) m = absurd m
+
+    by : (i j : Bool) → h ≡ i → w ≡ j → Grown s t
+    by false j e d = grown_same (y.number e).0
+    by true false e d = grown_same (y.variable e d).0
+    by true true e d = answered r (y.answers e d)
 
 pub runs_grown : {s t : Shown} {l : List Item} → Runs s l t → Grown s t
 runs_grown ended = grown_none

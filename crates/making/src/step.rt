@@ -1,6 +1,6 @@
 // One step back from a set.
 ghost use Rattle.std.specs.Prelude.{OnOk};
-ghost use Rattle.store.specs.Meaning.{Lawful};
+ghost use Rattle.store.specs.Meaning.{Grown, Lawful};
 ghost use Rattle.making.specs.Promises.{StepsBack};
 
 use crate::inputs::exists_all;
@@ -12,6 +12,7 @@ use store::refusal::Refusal;
 
 // The states from which a permitted step leads into the set, or that are in it. All of an advance's list but the call with Init.
 pub fn back<S: Store>(store: &mut S, from: u16, parts: &Parts) -> Result<u16, Refusal>
+    ensures grown { Grown (S.Store.shows store.old) (S.Store.shows store.new) }
     ensures lawful { OnOk result (Lawful (S.Store.shows store.new)) }
     ensures gives { StepsBack (S.Store.shows store.old) from parts.now result (S.Store.shows store.new) }
 {

@@ -1,5 +1,6 @@
 // Functions put for variables.
 ghost use Rattle.std.specs.Prelude.{◌+◌, ◌*◌, ◌<◌, length};
+ghost use Rattle.store.specs.Meaning.{Grown};
 ghost use Rattle.making.specs.Promises.{Cofactors, Composes, ComposesAll};
 
 use crate::parts::Polarities;
@@ -8,7 +9,8 @@ use store::refusal::Refusal;
 
 // The function a with false put for variable x, and with true.
 pub(crate) fn cofactors<S: Store>(store: &mut S, a: u16, x: u8) -> Result<(u16, u16), Refusal>
-    ensures { Cofactors (S.Store.shows store.old) a x result (S.Store.shows store.new) }
+    ensures grown { Grown (S.Store.shows store.old) (S.Store.shows store.new) }
+    ensures gives { Cofactors (S.Store.shows store.old) a x result (S.Store.shows store.new) }
 {
     let low = store.cofactor(a, x, false)?;
     let high = store.cofactor(a, x, true)?;
@@ -22,7 +24,8 @@ pub(crate) fn compose<S: Store>(
     x: u8,
     by: Polarities,
 ) -> Result<u16, Refusal>
-    ensures { Composes (S.Store.shows store.old) a x by result (S.Store.shows store.new) }
+    ensures grown { Grown (S.Store.shows store.old) (S.Store.shows store.new) }
+    ensures gives { Composes (S.Store.shows store.old) a x by result (S.Store.shows store.new) }
 {
     let (low, high) = cofactors(store, a, x)?;
     let over = store.and(by.function, high)?;
@@ -38,7 +41,8 @@ pub(crate) fn compose_all<S: Store>(
     by: &[Polarities],
 ) -> Result<u16, Refusal>
     requires { first + 2 * length by.now < 256 }
-    ensures { ComposesAll (S.Store.shows store.old) a first by.now result (S.Store.shows store.new) }
+    ensures grown { Grown (S.Store.shows store.old) (S.Store.shows store.new) }
+    ensures gives { ComposesAll (S.Store.shows store.old) a first by.now result (S.Store.shows store.new) }
 {
     let mut f = a;
     for (i, polarities) in by.iter().enumerate() {

@@ -8,7 +8,7 @@ use Rattle.making.specs.Making.{Runs, ended, Means, at}
 use Rattle.making.specs.Pieces.{halves_list, quantified_list}
 use Rattle.making.specs.Ends.{Ends, made, plain}
 use Rattle.making.specs.Promises.{Exists}
-use Rattle.making.proofs.Steps.{runs_grown, runs_of, broke, ends_after}
+use Rattle.making.proofs.Steps.{grown_none, grown_more, runs_grown, runs_of, broke, ends_after}
 use Rattle.making.proofs.Loops.{ends_upto}
 use Rattle.making.proofs.inputs.exists_all.Goals as goal
 
@@ -23,34 +23,46 @@ turn {s = s} {t = t} {u = u} p q first f x k a e l so r y =
     ends_after so.0 (y' p q (quantified first f k) so.1 in-range)
 
 pub loop-x-init : goal.loop-x-init
-loop-x-init g c p q f ma li =
-    let e : 0 ≡ c.args.first - c.args.first = omega arith in
-    let s = g.S.Store.shows c.args.store.now in
-    subst (λ k. Runs s (quantified_list p q c.args.first f k) s × Means s c.args.a (quantified c.args.first f k)) e (ended, ma)
+loop-x-init g c = (
+  λ p q f ma li.
+      let e : 0 ≡ c.args.first - c.args.first = omega arith in
+      let s = g.S.Store.shows c.args.store.now in
+      subst (λ k. Runs s (quantified_list p q c.args.first f k) s × Means s c.args.a (quantified c.args.first f k)) e (ended, ma),
+  grown_none,
+)
 
 pub returns-in_err-f : goal.returns-in_err-f
-returns-in_err-f g c p q f ma li =
-    let x = c.loop-x.x in
-    let first = c.args.first in
-    broke c.from_residual.result c.in_err-f.field-0.0 c.from_residual.ensures.1
-    (ends_upto (λ j. at p q (halves_list (first + j) (quantified first f j))) (suc (x - first)) c.args.m (omega arith)
-    (turn p q first f x (x - first) c.loop-x.f (omega arith) (omega (arith, li)) (c.loop-x.invariant p q f ma li) (Err c.in_err-f.field-0.0) c.in_err-f.ensures))
+returns-in_err-f g c = record {
+  gives = λ p q f ma li.
+      let x = c.loop-x.x in
+      let first = c.args.first in
+      broke c.from_residual.result c.in_err-f.field-0.0 c.from_residual.ensures.1
+      (ends_upto (λ j. at p q (halves_list (first + j) (quantified first f j))) (suc (x - first)) c.args.m (omega arith)
+      (turn p q first f x (x - first) c.loop-x.f (omega arith) (omega (arith, li)) (c.loop-x.invariant.0 p q f ma li) (Err c.in_err-f.field-0.0) c.in_err-f.ensures.gives));
+  grown = grown_more c.loop-x.invariant.1 c.in_err-f.ensures.grown;
+}
 
 pub loop-x-preserved : goal.loop-x-preserved
-loop-x-preserved g c p q f ma li =
-    let x = c.loop-x.x in
-    let first = c.args.first in
-    let s = g.S.Store.shows c.args.store.now in
-    let u = g.S.Store.shows c.exists.new.store in
-    let e : suc (x - first) ≡ x + 1 - first = omega arith in
-    subst (λ k. Runs s (quantified_list p q first f k) u × Means u c.in_ok-f.f (quantified first f k)) e
-    (runs_of (turn p q first f x (x - first) c.loop-x.f (omega arith) (omega (arith, li)) (c.loop-x.invariant p q f ma li) (Ok c.in_ok-f.f) c.in_ok-f.ensures))
+loop-x-preserved g c = (
+  λ p q f ma li.
+      let x = c.loop-x.x in
+      let first = c.args.first in
+      let s = g.S.Store.shows c.args.store.now in
+      let u = g.S.Store.shows c.exists.new.store in
+      let e : suc (x - first) ≡ x + 1 - first = omega arith in
+      subst (λ k. Runs s (quantified_list p q first f k) u × Means u c.in_ok-f.f (quantified first f k)) e
+      (runs_of (turn p q first f x (x - first) c.loop-x.f (omega arith) (omega (arith, li)) (c.loop-x.invariant.0 p q f ma li) (Ok c.in_ok-f.f) c.in_ok-f.ensures.gives)),
+  grown_more c.loop-x.invariant.1 c.in_ok-f.ensures.grown,
+)
 
 pub returns : goal.returns
-returns g c p q f ma li =
-    let first = c.args.first in
-    let s = g.S.Store.shows c.args.store.now in
-    let u = g.S.Store.shows c.loop-x.store in
-    let e : c.loop-x.x - first ≡ c.args.m = omega arith in
-    let r = subst (λ k. Runs s (quantified_list p q first f k) u × Means u c.loop-x.f (quantified first f k)) e (c.loop-x.invariant p q f ma li) in
-    made r.0 r.1
+returns g c = record {
+  gives = λ p q f ma li.
+      let first = c.args.first in
+      let s = g.S.Store.shows c.args.store.now in
+      let u = g.S.Store.shows c.loop-x.store in
+      let e : c.loop-x.x - first ≡ c.args.m = omega arith in
+      let r = subst (λ k. Runs s (quantified_list p q first f k) u × Means u c.loop-x.f (quantified first f k)) e (c.loop-x.invariant.0 p q f ma li) in
+      made r.0 r.1;
+  grown = c.loop-x.invariant.1;
+}

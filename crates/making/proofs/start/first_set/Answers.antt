@@ -36,7 +36,7 @@ returns g c p l h q w mh mq =
     let t = g.S.Store.shows c.exists_all.new.store in
     let first : c.first_input-first.result ≡ 2 * n.registers = c.first_input-first.ensures ∙ ap (λ r. 2 * r) c.registers.ensures in
     let y = subst (λ x. ExistsAll s c.in_ok-allowed.allowed x n.inputs c.exists_all.result t) first
-    (subst (λ k. ExistsAll s c.in_ok-allowed.allowed c.first_input-first.result k c.exists_all.result t) c.inputs.ensures c.exists_all.ensures) in
+    (subst (λ k. ExistsAll s c.in_ok-allowed.allowed c.first_input-first.result k c.exists_all.result t) c.inputs.ensures c.exists_all.ensures.gives) in
     ends_later c.in_ok-broken.ensures.lawful m1 c.in_ok-broken.ensures.after
     (ends_later c.in_ok-allowed.ensures.lawful m2 c.in_ok-allowed.ensures.after
     (y p l (both (negated q) h) (fresh m2) (subst (λ k. 2 * n.registers + n.inputs ≤ k) (sym (grown_more m1.grown m2.grown).vars) w)))

@@ -1,29 +1,41 @@
-use Rattle.making.proofs.Steps.{and_answers, or_answers, kept, fresh, runs_grown, runs_of, ends_here, ends_later, ends_after, ends_before, gives_last, broke}
+use Rattle.making.proofs.Steps.{and_answers, or_answers, kept, fresh, runs_grown, runs_of, ends_here, ends_later, ends_after, ends_before, gives_last, broke, grown_more, reply_grown}
 use Rattle.making.proofs.substitution.compose.Goals as goal
 
 pub returns-in_err-low : goal.returns-in_err-low
-returns-in_err-low g c p l f h ma mb li =
-    broke c.from_residual.result c.in_err-low.field-0.0 c.from_residual.ensures.1
-    (ends_before _ (c.in_err-low.ensures p l f ma li))
+returns-in_err-low g c = record {
+  gives = λ p l f h ma mb li.
+      broke c.from_residual.result c.in_err-low.field-0.0 c.from_residual.ensures.1
+      (ends_before _ (c.in_err-low.ensures.gives p l f ma li));
+  grown = c.in_err-low.ensures.grown;
+}
 
 pub returns-in_err-over : goal.returns-in_err-over
-returns-in_err-over g c p l f h ma mb li =
-    let so = runs_of (c.in_ok-low.ensures p l f ma li) in
-    broke c.from_residual-in_err-over.result c.in_err-over.field-0.0 c.from_residual-in_err-over.ensures.1
-    (ends_after so.0 (ends_here c.in_err-over.ensures.lawful _ (and_answers c.in_err-over.ensures (kept (runs_grown so.0) mb.function) so.1.1)))
+returns-in_err-over g c = record {
+  gives = λ p l f h ma mb li.
+      let so = runs_of (c.in_ok-low.ensures.gives p l f ma li) in
+      broke c.from_residual-in_err-over.result c.in_err-over.field-0.0 c.from_residual-in_err-over.ensures.1
+      (ends_after so.0 (ends_here c.in_err-over.ensures.lawful _ (and_answers c.in_err-over.ensures (kept (runs_grown so.0) mb.function) so.1.1)));
+  grown = grown_more c.in_ok-low.ensures.grown (reply_grown c.in_err-over.ensures);
+}
 
 pub returns-in_err-under : goal.returns-in_err-under
-returns-in_err-under g c p l f h ma mb li =
-    let so = runs_of (c.in_ok-low.ensures p l f ma li) in
-    let m3 = and_answers c.in_ok-over.ensures (kept (runs_grown so.0) mb.function) so.1.1 in
-    broke c.from_residual-in_err-under.result c.in_err-under.field-0.0 c.from_residual-in_err-under.ensures.1
-    (ends_after so.0 (ends_later c.in_ok-over.ensures.lawful m3 c.in_ok-over.ensures.after
-    (ends_here c.in_err-under.ensures.lawful _ (and_answers c.in_err-under.ensures (kept m3.grown (kept (runs_grown so.0) mb.negation)) (kept m3.grown so.1.0)))))
+returns-in_err-under g c = record {
+  gives = λ p l f h ma mb li.
+      let so = runs_of (c.in_ok-low.ensures.gives p l f ma li) in
+      let m3 = and_answers c.in_ok-over.ensures (kept (runs_grown so.0) mb.function) so.1.1 in
+      broke c.from_residual-in_err-under.result c.in_err-under.field-0.0 c.from_residual-in_err-under.ensures.1
+      (ends_after so.0 (ends_later c.in_ok-over.ensures.lawful m3 c.in_ok-over.ensures.after
+      (ends_here c.in_err-under.ensures.lawful _ (and_answers c.in_err-under.ensures (kept m3.grown (kept (runs_grown so.0) mb.negation)) (kept m3.grown so.1.0)))));
+  grown = grown_more c.in_ok-low.ensures.grown (grown_more (reply_grown c.in_ok-over.ensures) (reply_grown c.in_err-under.ensures));
+}
 
 pub returns : goal.returns
-returns g c p l f h ma mb li =
-    let so = runs_of (c.in_ok-low.ensures p l f ma li) in
-    let m3 = and_answers c.in_ok-over.ensures (kept (runs_grown so.0) mb.function) so.1.1 in
-    let m4 = and_answers c.in_ok-under.ensures (kept m3.grown (kept (runs_grown so.0) mb.negation)) (kept m3.grown so.1.0) in
-    ends_after so.0 (ends_later c.in_ok-over.ensures.lawful m3 c.in_ok-over.ensures.after (ends_later c.in_ok-under.ensures.lawful m4 c.in_ok-under.ensures.after
-    (gives_last c.or.ensures.lawful c.or.ensures.after _ (or_answers c.or.ensures (kept m4.grown (fresh m3)) (fresh m4)))))
+returns g c = record {
+  gives = λ p l f h ma mb li.
+      let so = runs_of (c.in_ok-low.ensures.gives p l f ma li) in
+      let m3 = and_answers c.in_ok-over.ensures (kept (runs_grown so.0) mb.function) so.1.1 in
+      let m4 = and_answers c.in_ok-under.ensures (kept m3.grown (kept (runs_grown so.0) mb.negation)) (kept m3.grown so.1.0) in
+      ends_after so.0 (ends_later c.in_ok-over.ensures.lawful m3 c.in_ok-over.ensures.after (ends_later c.in_ok-under.ensures.lawful m4 c.in_ok-under.ensures.after
+      (gives_last c.or.ensures.lawful c.or.ensures.after _ (or_answers c.or.ensures (kept m4.grown (fresh m3)) (fresh m4)))));
+  grown = grown_more c.in_ok-low.ensures.grown (grown_more (reply_grown c.in_ok-over.ensures) (grown_more (reply_grown c.in_ok-under.ensures) (reply_grown c.or.ensures)));
+}

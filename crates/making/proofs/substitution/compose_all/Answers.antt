@@ -9,7 +9,7 @@ use Rattle.making.specs.Making.{Runs, ended, Means, unpaired, Paired, at}
 use Rattle.making.specs.Pieces.{composed_list, composed_all_list}
 use Rattle.making.specs.Ends.{Ends, made, plain}
 use Rattle.making.specs.Promises.{Composes}
-use Rattle.making.proofs.Steps.{runs_grown, runs_of, broke, ends_after}
+use Rattle.making.proofs.Steps.{grown_none, grown_more, runs_grown, runs_of, broke, ends_after}
 use Rattle.making.proofs.Loops.{ends_upto, paired_kept}
 use Rattle.making.proofs.substitution.compose_all.Goals as goal
 
@@ -26,29 +26,42 @@ turn {t = t} {u = u} p q x f h first bs k a vs mb li lt so r y =
     (subst (λ i. i < t.vars) (sym (vs k lt)) (subst (λ n. x k < n) (sym w.vars) (li k lt)))))
 
 pub loop-i-init : goal.loop-i-init
-loop-i-init g c p q x f h vs ma mb li = (ended, ma)
+loop-i-init g c = (
+  λ p q x f h vs ma mb li.
+      (ended, ma),
+  grown_none,
+)
 
 pub returns-in_err-f : goal.returns-in_err-f
-returns-in_err-f g c p q x f h vs ma mb li =
-    let k = c.loop-i.i in
-    let bs = c.args.by.now in
-    let lt : k < length bs = c.loop-i-test.true in
-    broke c.from_residual.result c.in_err-f.field-0.0 c.from_residual.ensures.1
-    (ends_upto (λ i. at p q (composed_list (x i) (h i) (composed_all x h f i))) (suc k) (length bs) lt
-    (turn p q x f h c.args.first bs k c.loop-i.f vs mb li lt (c.loop-i.invariant p q x f h vs ma mb li) (Err c.in_err-f.field-0.0) c.in_err-f.ensures))
+returns-in_err-f g c = record {
+  gives = λ p q x f h vs ma mb li.
+      let k = c.loop-i.i in
+      let bs = c.args.by.now in
+      let lt : k < length bs = c.loop-i-test.true in
+      broke c.from_residual.result c.in_err-f.field-0.0 c.from_residual.ensures.1
+      (ends_upto (λ i. at p q (composed_list (x i) (h i) (composed_all x h f i))) (suc k) (length bs) lt
+      (turn p q x f h c.args.first bs k c.loop-i.f vs mb li lt (c.loop-i.invariant.0 p q x f h vs ma mb li) (Err c.in_err-f.field-0.0) c.in_err-f.ensures.gives));
+  grown = grown_more c.loop-i.invariant.1 c.in_err-f.ensures.grown;
+}
 
 pub loop-i-preserved : goal.loop-i-preserved
-loop-i-preserved g c p q x f h vs ma mb li =
-    let k = c.loop-i.i in
-    let s = g.S.Store.shows c.args.store.now in
-    let u = g.S.Store.shows c.compose.new.store in
-    subst (λ n. Runs s (composed_all_list p q x h f n) u × Means u c.in_ok-f.f (composed_all x h f n)) (sym (add-one k))
-    (runs_of (turn p q x f h c.args.first c.args.by.now k c.loop-i.f vs mb li c.loop-i-test.true (c.loop-i.invariant p q x f h vs ma mb li) (Ok c.in_ok-f.f) c.in_ok-f.ensures))
+loop-i-preserved g c = (
+  λ p q x f h vs ma mb li.
+      let k = c.loop-i.i in
+      let s = g.S.Store.shows c.args.store.now in
+      let u = g.S.Store.shows c.compose.new.store in
+      subst (λ n. Runs s (composed_all_list p q x h f n) u × Means u c.in_ok-f.f (composed_all x h f n)) (sym (add-one k))
+      (runs_of (turn p q x f h c.args.first c.args.by.now k c.loop-i.f vs mb li c.loop-i-test.true (c.loop-i.invariant.0 p q x f h vs ma mb li) (Ok c.in_ok-f.f) c.in_ok-f.ensures.gives)),
+  grown_more c.loop-i.invariant.1 c.in_ok-f.ensures.grown,
+)
 
 pub returns : goal.returns
-returns g c p q x f h vs ma mb li =
-    let s = g.S.Store.shows c.args.store.now in
-    let u = g.S.Store.shows c.loop-i.store in
-    let e : c.loop-i.i ≡ length c.args.by.now = omega arith in
-    let r = subst (λ n. Runs s (composed_all_list p q x h f n) u × Means u c.loop-i.f (composed_all x h f n)) e (c.loop-i.invariant p q x f h vs ma mb li) in
-    made r.0 r.1
+returns g c = record {
+  gives = λ p q x f h vs ma mb li.
+      let s = g.S.Store.shows c.args.store.now in
+      let u = g.S.Store.shows c.loop-i.store in
+      let e : c.loop-i.i ≡ length c.args.by.now = omega arith in
+      let r = subst (λ n. Runs s (composed_all_list p q x h f n) u × Means u c.loop-i.f (composed_all x h f n)) e (c.loop-i.invariant.0 p q x f h vs ma mb li) in
+      made r.0 r.1;
+  grown = c.loop-i.invariant.1;
+}
