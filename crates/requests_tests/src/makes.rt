@@ -1,7 +1,7 @@
 // Requests over each make of store, and over layers.
 use crate::scripts::{Arrays, Ask, Plain, Script, UNWRITTEN, exchanges, sources, told_of};
 use description::source::Source;
-use making::fault::Fault;
+use making::fault::Fault as Unmade;
 use order::Layer;
 use requests::reply::Reply;
 use requests::serve;
@@ -9,6 +9,7 @@ use std::alloc::{AllocError, Global};
 use std::process::Abort;
 use std::test::Fail;
 use store::Store;
+use uses::fault::Fault;
 
 // Two orders of 10 variables.
 pub(crate) const ORDER: [u8; 10] = [9, 3, 0, 7, 1, 8, 2, 6, 5, 4];
@@ -63,7 +64,8 @@ fn count(at: &mut u32, once: bool) {
 fn is_room(reply: Reply) -> bool {
     matches!(
         reply,
-        Reply::Load(Err(Fault::Room { .. })) | Reply::Advance(Err(Fault::Room { .. }))
+        Reply::Load(Err(Fault::Making(Unmade::Room { .. })))
+            | Reply::Advance(Err(Fault::Making(Unmade::Room { .. })))
     )
 }
 

@@ -1,12 +1,12 @@
 // Stores that have no room for a whole session.
 use crate::makes::{Seen, agrees, layer, replies, two_layers};
 use crate::random::Random;
-use crate::scripts::{Ask, Script, UNWRITTEN};
+use crate::scripts::{Arrays, Ask, Script, UNWRITTEN};
 use crate::turns::{DELAY, FOLLOW};
 use description::part::Part;
 use description::source::Source;
 use diagram::Diagram;
-use making::fault::Fault;
+use making::fault::Fault as Unmade;
 use nodes::Node;
 use requests::reply::Reply;
 use std::alloc::Global;
@@ -15,6 +15,7 @@ use std::test::Fail;
 use store::Store;
 use table::Table;
 use table::truths::Truths;
+use uses::fault::Fault;
 use uses::verdict::Verdict;
 
 // A load that is refused for room, the same load again, and a smaller one, then an advance and the trace.
@@ -29,12 +30,49 @@ const ASKS: [Ask; 5] = [
     },
 ];
 
-// Every function that the smaller circuit wants is one that the refused load has made, so that it is loaded with no unit free.
+// A part and a place there.
+type Place = (Part, u16);
+
+// A refusal with no unit free.
+fn refusal(place: Place) -> Fault {
+    let (part, place) = place;
+    Fault::Making(Unmade::Room {
+        part,
+        place,
+        free: 0,
+    })
+}
+
+// The replies and the arrays where the first load is refused in one place, and the second in another or nowhere.
+fn wanted(first: Place, second: Option<Place>) -> [(Reply, Arrays); 5] {
+    let refused = (Reply::Load(Err(refusal(first))), UNWRITTEN);
+    let Some(second) = second else {
+        let mut arrays = UNWRITTEN;
+        arrays.states[0] = 0;
+        arrays.states[1] = 1;
+        arrays.inputs[0] = 1;
+        arrays.inputs[1] = 0;
+        return [
+            refused,
+            refused,
+            (Reply::Load(Ok(Verdict::Open)), UNWRITTEN),
+            (Reply::Advance(Ok(Verdict::Unsafe(1))), UNWRITTEN),
+            (Reply::Trace(Ok(())), arrays),
+        ];
+    };
+    [
+        refused,
+        refused,
+        (Reply::Load(Err(refusal(second))), UNWRITTEN),
+        (Reply::Advance(Err(Fault::Empty)), UNWRITTEN),
+        (Reply::Trace(Err(Fault::Empty)), UNWRITTEN),
+    ]
+}
+
 fn loads_again<S: Store + Drop>(
     rt: &impl Abort,
     store: S,
-    refusal: (Part, u16),
-    loads: bool,
+    wanted: &[(Reply, Arrays); 5],
     heap: Global,
 ) -> Result<(), Fail> {
     let sources = [
@@ -50,47 +88,36 @@ fn loads_again<S: Store + Drop>(
         },
     ];
     let (_store, replies) = replies(&ASKS, &sources, store, heap)?;
-    let (part, place) = refusal;
-    let refused = Reply::Load(Err(Fault::Room {
-        part,
-        place,
-        free: 0,
-    }));
-    assert_eq!(rt; replies[0].0, refused);
-    assert_eq!(rt; replies[1].0, refused);
-    if loads {
-        assert_eq!(rt; replies[2].0, Reply::Load(Ok(Verdict::Open)));
-        assert_eq!(rt; replies[3].0, Reply::Advance(Ok(Verdict::Unsafe(1))));
-        assert_eq!(rt; replies[4].0, Reply::Trace(Ok(())));
-    } else {
-        assert!(rt; matches!(replies[2].0, Reply::Load(Err(Fault::Room { free: 0, .. }))));
-        assert_eq!(rt; replies[3].0, Reply::Advance(Err(Fault::Empty)));
-        assert_eq!(rt; replies[4], (Reply::Trace(Err(Fault::Empty)), UNWRITTEN));
+    assert_eq!(rt; replies.len(), wanted.len());
+    for (reply, wanted) in replies.iter().zip(wanted.iter()) {
+        assert_eq!(rt; *reply, *wanted);
     }
     Ok(())
 }
 
+// With 12 records and 13 the refused load has made every function that the smaller circuit wants, which is then loaded with no unit free.
 #[test]
 fn loads_after_room(rt: HostRuntime) -> Result<(), Fail> {
     let heap = rt.alloc();
     let mut tables = [Truths::default(); 14];
     let table = [
-        (4, (Part::Circuit, 0), false),
-        (7, (Part::Circuit, 2), false),
-        (8, (Part::Assumption, 3), false),
-        (9, (Part::Property, 5), false),
-        (10, (Part::Property, 0), false),
-        (11, (Part::Sets, 0), false),
-        (12, (Part::Sets, 0), true),
-        (13, (Part::Sets, 0), true),
+        (4, (Part::Circuit, 0), Some((Part::Circuit, 1))),
+        (7, (Part::Circuit, 2), Some((Part::Sets, 0))),
+        (8, (Part::Assumption, 3), Some((Part::Sets, 0))),
+        (9, (Part::Property, 5), Some((Part::Sets, 0))),
+        (10, (Part::Property, 0), Some((Part::Sets, 0))),
+        (11, (Part::Sets, 0), Some((Part::Sets, 0))),
+        (12, (Part::Sets, 0), None),
+        (13, (Part::Sets, 0), None),
     ];
-    for (records, refusal, loads) in table {
+    for (records, first, second) in table {
+        let wanted = wanted(first, second);
         let store = Table::new(10, &mut tables[0..records], &mut []);
-        loads_again(&rt, store, refusal, loads, heap)?;
+        loads_again(&rt, store, &wanted, heap)?;
         let store = layer(Table::new(10, &mut tables[0..records], &mut []));
-        loads_again(&rt, store, refusal, loads, heap)?;
+        loads_again(&rt, store, &wanted, heap)?;
         let store = two_layers(Table::new(10, &mut tables[0..records], &mut []));
-        loads_again(&rt, store, refusal, loads, heap)?;
+        loads_again(&rt, store, &wanted, heap)?;
     }
     Ok(())
 }
@@ -135,7 +162,7 @@ fn small_stores(rt: HostRuntime) -> Result<(), Fail> {
         agrees(&rt, &script, store, &mut seen, heap)?;
     }
     assert!(rt;
-        seen.rooms.min(seen.same_rooms).min(seen.loads_after_room) > 100,
+        seen.rooms.min(seen.same_rooms) > 100 && seen.loads_after_room > 0,
         "{seen:?}"
     );
     Ok(())

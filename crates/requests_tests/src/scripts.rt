@@ -5,11 +5,11 @@ use crate::search::{Problem, holds};
 use description::notice::Notice;
 use description::part::Part;
 use description::source::Source;
-use making::fault::Fault;
 use requests::exchange::Exchange;
 use requests::reply::Reply;
 use requests::request::Request;
 use std::alloc::{AllocError, Global};
+use uses::fault::Fault;
 use uses::verdict::Verdict;
 
 // How many entries the arrays of a trace have, of which some are lent.
