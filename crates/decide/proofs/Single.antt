@@ -22,7 +22,7 @@ use Rattle.runs.specs.Verdicts.{Safe, Unsafe}
 use Rattle.runs.proofs.Traces as runs
 use Rattle.runs.proofs.Verdicts.{verdicts}
 use Rattle.uses.specs.Uses.{room}
-use Rattle.uses.proofs.Uses.{closed}
+use Rattle.runs.proofs.Models.{closed}
 use Rattle.job.specs.Frames.{Parts, frame}
 use Rattle.job.specs.declared.fault.Fault.{Fault as Unframed}
 use Rattle.decide.specs.declared.fault.Fault.{Fault}

@@ -12,8 +12,8 @@ use Rattle.runs.specs.Functions.{spread}
 use Rattle.runs.specs.Valuations.{set_fn}
 use Rattle.runs.specs.Models.{Model, system, Valid}
 use Rattle.runs.specs.Search.{bad}
-use Rattle.runs.specs.Systems.{State, Input, Closed}
-use Rattle.runs.proofs.Models.{functions_exact}
+use Rattle.runs.specs.Systems.{State, Input}
+use Rattle.runs.proofs.Models.{closed, functions_exact}
 use Rattle.runs.proofs.Numbers.{spreads}
 use Rattle.engine.specs.Questions.{Readable, Tells, GoesTo}
 use Rattle.uses.proofs.Told.{never}
@@ -48,9 +48,6 @@ module _ (s : Shown) (n m a q v w : ℕ) (f : Fn) (at : w ≡ spread n q v) (e :
       let p = pow_mono {i = 2 * n + m} {j = s.vars} wide in
       let h : w < 2 ^ s.vars = omega arith in
       t.value e.held h ∙ ap Ok (e.same w h ∙ ap f at)
-
-pub closed : (m : Model) → Valid m → Closed (system m)
-closed m v = (functions_exact m v).stepped.closed
 
 module _ (s : Shown) (m : Model) (k : Parts) (h : Readable s m k) where
   at_spread : (a : ℕ) (f : Fn) (q v : ℕ) (r : Result Bool Fault) → Means s a f → State (system m) q → Input (system m) v → Tells s (registers_of k) a q v r
@@ -97,4 +94,4 @@ module _ (s : Shown) (m : Model) (k : Parts) (h : Readable s m k) where
       → ◌≡◌ {A = Result ℕ Fault} (Ok next) (Ok ((system m).next q v)) → Tells s (registers_of k) a next 0 r → r ≡ Ok (bad (system m) i ((system m).next q v))
   after_is i a q v next r e lq lv p t =
       let x : next ≡ (system m).next q v = cc in
-      set_is i a ((system m).next q v) r e (closed m h.valid q v lq lv) (subst (λ y. Tells s (registers_of k) a y 0 r) x t)
+      set_is i a ((system m).next q v) r e (closed m q v lq lv) (subst (λ y. Tells s (registers_of k) a y 0 r) x t)

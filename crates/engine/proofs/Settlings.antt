@@ -10,7 +10,8 @@ use Rattle.uses.specs.declared.verdict.Verdict.TheVariants as answer
 use Rattle.uses.specs.Calls.{State, empty, loaded, Call, advance, Stand, stand, Event, event}
 use Rattle.uses.specs.Uses.{Step, advance_empty, advance_settled, advance_full, advances, Use, went_on}
 use Rattle.uses.proofs.Told.{never, tell_unsafe}
-use Rattle.uses.proofs.Uses.{closed, come}
+use Rattle.runs.proofs.Models.{closed}
+use Rattle.uses.proofs.Uses.{come}
 use Rattle.arrayvec.specs.ArrayVec.{array_vec_len}
 use Rattle.engine.specs.declared.search.Search.{Search}
 use Rattle.engine.specs.declared.settled.Settled.{Settled}

@@ -29,7 +29,7 @@ fn pop(stack: &mut Stack) -> u16
 }
 
 // Takes the two on top: the left one, and the right one above it.
-// Not `claim`'s, which asks for two operands: this asks for none, since a missing one is false.
+// It asks for none, since a missing one is false.
 fn pop_two(stack: &mut Stack) -> (u16, u16)
     ensures tops { (below : List ℕ) (a b : ℕ) → stack.old.items ≡ below ++ a ∷ b ∷ [] → (result ≡ (a, b)) × (stack.new.items ≡ below) }
     ensures lower { length stack.new.items ≤ length stack.old.items }
@@ -40,7 +40,6 @@ fn pop_two(stack: &mut Stack) -> (u16, u16)
 }
 
 // The number of an act's function. Its operands leave the stack. A match, and no closures: an act is data, read from a text.
-// Not one with `claim`'s: a trait of five acts would carry laws over what a store shows, and a refusal that no truth has.
 fn act_on<S: Store>(
     store: &mut S,
     lines: &Lines,

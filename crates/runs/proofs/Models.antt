@@ -24,6 +24,10 @@ use Rattle.runs.proofs.Numbers.{number_lt, bit_number, spreads}
 use Rattle.runs.proofs.Steps.{steps_back, sets_same}
 use Rattle.circuit.proofs.Passing.{reading_sound}
 
+-- the next state is a state
+pub closed : (m : Model) → Closed (system m)
+closed m q v lq lv = number_lt m.circuit.registers _
+
 -- names that agree where there is what they name
 abbrev Agree : Sizes → (Sort → ℕ → Bool) → (Sort → ℕ → Bool) → Type 0
 Agree z a b = (s : Sort) (i : ℕ) → i < limit z s → a s i ≡ b s i
@@ -132,15 +136,12 @@ module _ (m : Model) (ok : Valid m) where
     claims = folded;
   }
 
-  closed : Closed (system m)
-  closed q v lq lv = number_lt m.circuit.registers _
-
   stepped : Stepped m
   stepped =
       let s = system m in
-      let b = steps_back s (next_fn m) (init_fn m) (claim_fn m m.assumption) (claim_fn m m.property) closed stands in
+      let b = steps_back s (next_fn m) (init_fn m) (claim_fn m m.assumption) (claim_fn m m.property) (closed m) stands in
       record {
-        closed = closed;
+        closed = closed m;
         stands = stands;
         first = b.first;
         back = b.back;

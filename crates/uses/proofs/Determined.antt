@@ -21,7 +21,8 @@ use Rattle.uses.specs.Uses.{room}
 use Rattle.uses.specs.Determined.{Alike, both_load, both_advance, both_ask, both_trace, both_inside, Determined}
 use Rattle.uses.proofs.Told.{never}
 use Rattle.uses.proofs.Written.{written_like}
-use Rattle.uses.proofs.Uses.{closed, Come, come}
+use Rattle.runs.proofs.Models.{closed}
+use Rattle.uses.proofs.Uses.{Come, come}
 
 -- by what the store shows at the end, a list was made, or which call of it was refused
 module _ {s t u : Shown} {l : List Item} (e : t ≡ u) where

@@ -19,7 +19,8 @@ use Rattle.uses.specs.Uses.{inside_empty, inside_verdict, inside_state, insides}
 use Rattle.uses.specs.Possible.{Answered, Possible}
 use Rattle.description.proofs.Checks.{some_check}
 use Rattle.uses.proofs.Told.{never}
-use Rattle.uses.proofs.Uses.{closed, Come, come}
+use Rattle.runs.proofs.Models.{closed}
+use Rattle.uses.proofs.Uses.{Come, come}
 
 module _ (s : Shown) where
   abbrev Loads : State → (x a p : List ℕ) → Type 0

@@ -30,7 +30,8 @@ use Rattle.uses.specs.Promise.{Promised}
 use Rattle.uses.proofs.Told.{never, tell_not_empty, tell_safe, tell_open, tell_unsafe}
 use Rattle.uses.proofs.Written.{written_at, breaking_like}
 use Rattle.uses.proofs.Unchanged.{same_but, same_arrays}
-use Rattle.uses.proofs.Uses.{closed, step_grown, Come, come}
+use Rattle.runs.proofs.Models.{closed}
+use Rattle.uses.proofs.Uses.{step_grown, Come, come}
 
 short_of :
     {s t : Shown} {l : List Item} {y : Item} (bound : ℕ)

@@ -6,19 +6,15 @@ use Rattle.store.specs.Meaning.{Shown, Grown}
 use Rattle.description.specs.Checks.{Checked, right}
 use Rattle.making.specs.Making.{ended}
 use Rattle.making.proofs.Steps.{runs_grown, stops_grown}
-use Rattle.runs.specs.Systems.{System, Closed}
+use Rattle.runs.specs.Systems.{System}
 use Rattle.runs.specs.Search.{open_yet, verdict, Reached}
 use Rattle.runs.specs.Models.{Model, system, Describes}
-use Rattle.runs.proofs.Numbers.{number_lt}
 use Rattle.uses.specs.Calls.{State, empty, loaded, told, Call, load, advance, Stand, stand, Event, event}
 use Rattle.uses.specs.Calls.{is_load, is_advance, accepted_loads, accepted_advances}
 use Rattle.uses.specs.Uses.{Step, load_twice, load_wrong, load_full, loads, advance_empty, advance_settled}
 use Rattle.uses.specs.Uses.{advance_full, advances, asks, trace_empty, trace_verdict, trace_short, traces}
 use Rattle.uses.specs.Uses.{inside_empty, inside_verdict, inside_state, insides, Use, begun, went_on}
 use Rattle.uses.specs.Says.{OneLoad}
-
-pub closed : (m : Model) → Closed (system m)
-closed m q v lq lv = number_lt m.circuit.registers _
 
 next_reached : (s : System) (j : ℕ) → Reached s j → verdict s j ≡ open_yet → Reached s (suc j)
 next_reached s j r o i l =

@@ -6,7 +6,8 @@ use mir.Val.{bool_byte}
 use Rattle.runs.specs.Models.{Model, system}
 use Rattle.engine.proofs.Backwards.{back_one, item_is, one_less, in_all}
 use Rattle.engine.proofs.Bits.{one, more, more_below, room}
-use Rattle.engine.proofs.Readings.{told_still, refused, next_is, closed}
+use Rattle.runs.proofs.Models.{closed}
+use Rattle.engine.proofs.Readings.{told_still, refused, next_is}
 use Rattle.engine.proofs.search.Search.next_state.Goals as goal
 use Rattle.engine.proofs.search.Search.next_state.Goals.{In-Some}
 use Rattle.engine.specs.Questions.{Tells, Readable}
@@ -22,7 +23,7 @@ loop-bit-init g c =
     let e = ap (λ i. i.iter.rest.now) c.into_iter-bit-iterator.ensures.into_iter_gives ∙ ap (λ i. i.rest.now) c.rev-bit-items.ensures.source ∙ c.iter.ensures.rest ∙ c.deref.ensures.0 in
     let few = c.deref.ensures.1 in
     let n : length c.into_iter-bit-iterator.result.iter.rest.now ≡ registers_of k = omega (arith, ap length e, k.led) in
-    (tt, tt, refl, ([], append-nil _ ∙ e, omega arith), λ m h lq lv. sym (div-eq_of_lt (subst (λ i. (system m).next c.args.step.state c.args.step.input < 2 ^ i) (sym (n ∙ h.registers)) (closed m h.valid c.args.step.state c.args.step.input lq lv))))
+    (tt, tt, refl, ([], append-nil _ ∙ e, omega arith), λ m h lq lv. sym (div-eq_of_lt (subst (λ i. (system m).next c.args.step.state c.args.step.input < 2 ^ i) (sym (n ∙ h.registers)) (closed m c.args.step.state c.args.step.input lq lv))))
 
 -- the place of the number that is read, and the bits that were read before it
 fits : (g : _) (c : In-Some g) → (length c.next.new.self.iter.rest.now < registers_of c.args.self.now.parts) × (c.loop-bit.next < 128)

@@ -13,7 +13,8 @@ use Rattle.engine.specs.declared.search.Search.{Search}
 use Rattle.engine.specs.Questions.{Finds, GoesTo}
 use Rattle.store.specs.Meaning.{Shown}
 use Rattle.store.specs.Fun.{some}
-use Rattle.engine.proofs.Readings.{closed, refused}
+use Rattle.runs.proofs.Models.{closed}
+use Rattle.engine.proofs.Readings.{refused}
 use Rattle.engine.proofs.Tracings.{at, starts, state_now, steps, finishes}
 use Rattle.engine.proofs.Walking.{found, lost, sets_still, next_is, start, lead, fault, spares_none, spares_state, spares_input, spares_both}
 use Rattle.engine.proofs.search.Search.walk.Goals as goal
@@ -25,7 +26,7 @@ begins : (g : _) (c : After-smallest g) (m : Model) (j : ℕ) → Sets m j (g.S.
 begins g c m j h = start m j _ c.args.self.now h g.S.Store.shows _ _ c.smallest.result c.smallest.ensures.finds c.states.ensures (λ a b x o p. search rules)
 
 pub returns-in_err-states-clause-walks : goal.returns-in_err-states-clause-walks
-returns-in_err-states-clause-walks g c m j h r e = absurd (lost _ _ _ (begins g (goal.at.returns-in_err-states-clause-walks g c).After-smallest m j h) (traces (system m) (closed m h.valid) j r e).begins c.in_err-states.was)
+returns-in_err-states-clause-walks g c m j h r e = absurd (lost _ _ _ (begins g (goal.at.returns-in_err-states-clause-walks g c).After-smallest m j h) (traces (system m) (closed m) j r e).begins c.in_err-states.was)
 
 pub loop-t-init : goal.loop-t-init
 loop-t-init g c = (
@@ -54,7 +55,7 @@ module _ (g : _) (c : After-smallest-in-loop-t g) (m : Model) (j : ℕ) (h : Set
   so_far = c.loop-t.invariant.2 m j h r e
 
   is_state : State (system m) state
-  is_state = state_now (system m) j t c.loop-t.states c.loop-t.inputs so_far (closed m h.valid)
+  is_state = state_now (system m) j t c.loop-t.states c.loop-t.inputs so_far (closed m)
 
   left : t < j
   left = omega (arith, c.loop-t-test.true, c.len-depth.ensures.value, h.count)
@@ -76,7 +77,7 @@ module _ (g : _) (c : After-smallest-in-loop-t g) (m : Model) (j : ℕ) (h : Set
       (j - t - 1) set (subst (λ a. Means (g.S.Store.shows c.loop-t.store) a (set_fn m (j - t - 1))) set_is set_here) (λ a b x o p. search rules)
 
   leads_on : some (leads_into (system m) (bad (system m) (j - t - 1)) state) (2 ^ (system m).inputs) ≡ true
-  leads_on = (traces (system m) (closed m h.valid) j r e).goes_on _ _ t left so_far
+  leads_on = (traces (system m) (closed m) j r e).goes_on _ _ t left so_far
 
   module _ (v : ℕ) (p : c.smallest-in-loop-t.result ≡ Ok v) (u : Shown) (q : u ≡ g.S.Store.shows c.loop-t.store) (x : Result ℕ Fault) (f : GoesTo u k.parts state v x) where
     moves : x ≡ Ok ((system m).next state v)
@@ -132,7 +133,7 @@ module _ (g : _) (c : After-smallest-2 g) (m : Model) (j : ℕ) (h : Sets m j (g
       subst (λ n. TraceTo (system m) j n (at c.loop-t.states) (at c.loop-t.inputs)) i (c.loop-t.invariant.2 m j at_first r e)
 
   state_at_end : State (system m) end
-  state_at_end = state_now (system m) j _ c.loop-t.states c.loop-t.inputs whole (closed m h.valid)
+  state_at_end = state_now (system m) j _ c.loop-t.states c.loop-t.inputs whole (closed m)
 
   faults : Finds (2 ^ (system m).inputs) (faulty (system m) end) c.smallest-2.result
   faults = fault m j _ c.args.self.now (sets_still m j c.args.self.now _ _ c.loop-t.invariant.0 at_first) g.S.Store.shows _ _ c.smallest-2.result c.smallest-2.ensures.finds c.inputs-2.ensures
@@ -140,7 +141,7 @@ module _ (g : _) (c : After-smallest-2 g) (m : Model) (j : ℕ) (h : Sets m j (g
 
   faults_there : some (faulty (system m) end) (2 ^ (system m).inputs) ≡ true
   faults_there = subst (λ n. some (faulty (system m) (at c.loop-t.states n)) (2 ^ (system m).inputs) ≡ true) (sym at_end)
-      ((traces (system m) (closed m h.valid) j r e).ends _ _ (subst (λ n. TraceTo (system m) j n (at c.loop-t.states) (at c.loop-t.inputs)) at_end whole))
+      ((traces (system m) (closed m) j r e).ends _ _ (subst (λ n. TraceTo (system m) j n (at c.loop-t.states) (at c.loop-t.inputs)) at_end whole))
 
 pub returns-in_err-inputs-clause-walks : goal.returns-in_err-inputs-clause-walks
 returns-in_err-inputs-clause-walks g c m j h r e =
