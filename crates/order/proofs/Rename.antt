@@ -10,7 +10,7 @@ use Rattle.store.specs.Calls.{Answers, Reply}
 use Rattle.store.proofs.Same.{holds_tells, holds_like, same_sym, same_trans}
 use Rattle.order.specs.Listing.{order_of}
 use Rattle.order.specs.Renaming.{placed, taken, above, below, lifted, renamed, ordered}
-use Rattle.order.specs.Facts.{Permutes, StandsFor, Reorders}
+use Rattle.order.specs.Facts.{Permutes, StandsFor, Renames, Reorders}
 use Rattle.order.proofs.Lists.{permutes_order}
 use Rattle.order.proofs.Permute.{above_same, above_back, above_stands, below_stands, stands_above, stands_below, placed_lt, places_placed, places_taken, taken_lt}
 
@@ -47,10 +47,19 @@ module _ (p : ℕ → ℕ) (s : Shown) (o : Permutes s.vars p) where
     priced = λ f z. holds_as f _ (below_stands s.vars p o f) ∙ l.priced _ (sym (price_is f) ∙ z);
   }
 
+  renames : Renames s.vars p
+  renames = record {
+    permutes = o;
+    placed = λ w h. (placed p s.vars w, (placed_lt s.vars p o s.vars w (omega arith) h, places_placed s.vars p o w));
+    taken = λ v h. (taken p s.vars v, (taken_lt p s.vars s.vars v (omega arith) h, places_taken s.vars p o v));
+    below = λ f. (below p s.vars f, below_stands s.vars p o f);
+    above = λ g. (above p s.vars g, above_stands s.vars p o g);
+  }
+
   pub reorders : Lawful s → Reorders p s (renamed p s)
   reorders l = record {
     lawful = lawful_renamed l;
-    order = o;
+    renames = renames;
     vars = refl;
     held = λ a. refl;
     used = refl;
@@ -58,10 +67,6 @@ module _ (p : ℕ → ℕ) (s : Shown) (o : Permutes s.vars p) where
     top = refl;
     value = λ a. above_stands s.vars p o (s.value a);
     price = price_as l;
-    placed = λ w h. (placed p s.vars w, (placed_lt s.vars p o s.vars w (omega arith) h, places_placed s.vars p o w));
-    taken = λ v h. (taken p s.vars v, (taken_lt p s.vars s.vars v (omega arith) h, places_taken s.vars p o v));
-    below = λ f. (below p s.vars f, below_stands s.vars p o f);
-    above = λ g. (above p s.vars g, above_stands s.vars p o g);
   }
 
 -- the store under the order that a list gives

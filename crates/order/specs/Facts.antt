@@ -17,10 +17,19 @@ Places n p w v = (i : ℕ) → i < n → bit i w ≡ bit (p i) v
 abbrev pub StandsFor : ℕ → (ℕ → ℕ) → Fn → Fn → Type 0
 StandsFor n p f g = (w v : ℕ) → w < 2 ^ n → v < 2 ^ n → Places n p w v → f w ≡ g v
 
+-- p renames n variables: it takes each once, and so each valuation and each function above is one below, and each below
+-- is one above; that nothing is left out is what gives weight to all that is said of what stands for what
+pub record Renames (n : ℕ) (p : ℕ → ℕ) : Type 0 where
+  pub permutes : Permutes n p
+  pub placed : (w : ℕ) → w < 2 ^ n → (v : ℕ) × ((v < 2 ^ n) × Places n p w v)
+  pub taken : (v : ℕ) → v < 2 ^ n → (w : ℕ) × ((w < 2 ^ n) × Places n p w v)
+  pub below : (f : Fn) → (g : Fn) × StandsFor n p f g
+  pub above : (g : Fn) → (f : Fn) × StandsFor n p f g
+
 -- t is the store s under the order p
 pub record Reorders (p : ℕ → ℕ) (s t : Shown) : Type 0 where
   pub lawful : Lawful t
-  pub order : Permutes s.vars p
+  pub renames : Renames s.vars p
   -- N, the numbers that are held, the units and the top price are those below
   pub vars : t.vars ≡ s.vars
   pub held : (a : ℕ) → t.held a ≡ s.held a
@@ -30,8 +39,3 @@ pub record Reorders (p : ℕ → ℕ) (s t : Shown) : Type 0 where
   -- and the functions and the prices, with variable i for variable p(i)
   pub value : (a : ℕ) → StandsFor s.vars p (t.value a) (s.value a)
   pub price : (f g : Fn) → StandsFor s.vars p f g → price t f ≡ price s g
-  -- each valuation and each function above is one below, and each below is one above
-  pub placed : (w : ℕ) → w < 2 ^ s.vars → (v : ℕ) × ((v < 2 ^ s.vars) × Places s.vars p w v)
-  pub taken : (v : ℕ) → v < 2 ^ s.vars → (w : ℕ) × ((w < 2 ^ s.vars) × Places s.vars p w v)
-  pub below : (f : Fn) → (g : Fn) × StandsFor s.vars p f g
-  pub above : (g : Fn) → (f : Fn) × StandsFor s.vars p f g

@@ -39,7 +39,7 @@ pub fn check<S: Store>(store: &mut S, p: &[u8]) -> Result<(), Unfit>
 impl<S: Store> Layer<S> {
     ghost use Rattle.order.specs.Layers.{below, order, above};
 
-    /// The store under the order p; under the order of its variables, where p is none.
+    /// The store under the order p; under the order of its variables, where p is no order.
     pub fn new(mut store: S, p: &[u8]) -> Layer<S>
         ensures below { below result ≡ S.Store.shows store }
         ensures order { order result ≡ order_of (S.Store.shows store).vars p.now }
@@ -68,6 +68,8 @@ impl<S: Store> Store for Layer<S> {
 
     fn value(&mut self, a: u16, w: u32) -> Result<bool, Refusal>
         ensures same { above self.new ≡ above self.old }
+        ensures still { below self.new ≡ below self.old }
+        ensures order { order self.new ≡ order self.old }
         ensures told { TellsValue (above self.old) a w result }
         ensures below { TellsAsBelow (order self.old) (below self.old) a w result }
     {
@@ -76,6 +78,8 @@ impl<S: Store> Store for Layer<S> {
 
     fn figures(&mut self) -> Figures
         ensures same { above self.new ≡ above self.old }
+        ensures still { below self.new ≡ below self.old }
+        ensures order { order self.new ≡ order self.old }
         ensures told { TellsFigures (above self.old) result }
         ensures below { TellsFigures (below self.old) result }
     {

@@ -1,5 +1,6 @@
 -- What a look-up answers, and what the list then holds, up to the equality that the entries tell.
-use Rattle.std.specs.Prelude.{◌≡◌, ℕ, ◌<◌, ◌≤◌, Bool, true, ◌⊎◌, List, [], ◌∷◌, ◌++◌, length, Some, None, Option, Ok, Err, Result}
+use Rattle.std.specs.Prelude.{◌≡◌, ℕ, ◌<◌, ◌≤◌, Bool, true, ◌⊎◌, Some, None, Option, Ok, Err, Result}
+use Rattle.std.specs.Prelude.{List, [], ◌∷◌, ◌++◌, length}
 use Rattle.std.specs.List.{slice_get}
 use Rattle.records.specs.declared.Full.{Full}
 use Rattle.std.specs.declared.cmp.PartialEq as eq

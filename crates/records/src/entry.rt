@@ -1,8 +1,8 @@
 // A kind of entry that can tell equality: by `Eq`, its `==` is an equivalence, and equal entries need not be identical.
-// No `Copy`: an entry that is found, or finds no room, is dropped.
+// No `Copy`: what is looked up is dropped where an equal entry stands, or no room is left.
 ghost use Rattle.std.specs.Prelude.{◌≡◌, ℕ, true};
 
-/// What a list is of. Its `==` says which entry is found for another.
+/// A kind of entry that a list can hold. Its `==` says which entry is found for another.
 pub trait Entry: Eq + Drop {
     ghost hashed: { Self → ℕ } = { λ _. 0 };
 

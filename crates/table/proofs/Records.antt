@@ -8,7 +8,7 @@ use Rattle.table.specs.declared.truths.Truths.{Truths}
 use Rattle.table.specs.Tables.{truth, table}
 use Rattle.table.specs.Shows.{kept, shown, sound}
 use Rattle.table.specs.Records.{IsRecord, RecordOf, record_at}
-use Rattle.table.proofs.Tables.{table_past}
+use Rattle.table.proofs.Tables.{table_past, table_size}
 use Rattle.table.proofs.Sound.{sound_tells}
 
 module _ (n : ℕ) (xs : List Truths) (capacity : ℕ) (s : sound n xs ≡ true) where
@@ -19,6 +19,7 @@ module _ (n : ℕ) (xs : List Truths) (capacity : ℕ) (s : sound n xs ≡ true)
       → IsRecord (shown n xs capacity) (suc (suc k)) t
   kept_record k t h is e = record {
     own = omega arith;
+    size = ap (λ u. length u.bytes) e ∙ table_size n (truth t);
     held = lt-ltb (suc (suc k)) (length xs + 2) (omega arith);
     value = λ w _. ap (λ r. kept r w) is;
     rest = λ w past low. ap (λ u. truth u w) e ∙ table_past n (truth t) w past low;

@@ -1,14 +1,16 @@
 -- What the record of a number holds, by what the store shows.
-use Rattle.std.specs.Prelude.{◌≡◌, ℕ, zero, suc, ◌*◌, ◌/◌, ◌%◌, ◌^◌, ◌<◌, ◌≤◌, true, false, List, Some, None, Option, slice_index}
+use Rattle.std.specs.Prelude.{◌≡◌, ℕ, zero, suc, ◌*◌, ◌/◌, ◌%◌, ◌^◌, ◌<◌, ◌≤◌, true, false}
+use Rattle.std.specs.Prelude.{List, length, Some, None, Option, slice_index}
 use Rattle.std.specs.List.{slice_get}
 use Rattle.store.specs.Fun.{bit}
 use Rattle.store.specs.Meaning.{Shown}
 use Rattle.table.specs.declared.truths.Truths.{Truths}
 
--- t, of 128 bytes, is the record of number a
+-- t is the record of number a
 pub record IsRecord (s : Shown) (a : ℕ) (t : Truths) : Type 0 where
   pub own : 2 ≤ a
   pub held : s.held a ≡ true
+  pub size : length t.bytes ≡ 128
   -- the value at w is bit w mod 8 of byte w div 8
   pub value : (w : ℕ) → w < 2 ^ s.vars → s.value a w ≡ bit (w % 8) (slice_index t.bytes (w / 8))
   -- and bits from 2^N on are 0
