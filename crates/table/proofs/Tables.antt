@@ -6,6 +6,7 @@ use Rattle.std.specs.Array.{IsFromFnResultFrom}
 use Rattle.std.specs.Bool.{MatchBool, then_some}
 use Rattle.std.specs.Fn.{Called}
 use Rattle.std.specs.List.{range_with_len, AllWithin, HoldsAt}
+use Rattle.std.proofs.lemmas.List.{length-map}
 use Rattle.std.proofs.lemmas.List.FromFn.{length-range_with_len, get_or-range_with_len, get_or-map-range_with_len}
 use Rattle.std.proofs.lemmas.Bool.{cases_Bool, cases_lt, ltb-true, lt-ltb, le-ltb}
 use Rattle.std.proofs.lemmas.Nat.{pow_pos}
@@ -73,6 +74,11 @@ truth_table n f few w h =
 -- and from 2^n on its bits are 0
 pub table_past : (n : ℕ) (f : Fn) (w : ℕ) → 2 ^ n ≤ w → w < 8 * 128 → truth (table n f) w ≡ false
 table_past n f w h low = bit_table n f w low ∙ rw (le-ltb w (2 ^ n) h) refl
+
+-- it has 128 bytes
+pub table_size : (n : ℕ) (f : Fn) → length (table n f).bytes ≡ 128
+unfolding packed_truths
+table_size n f = length-map (range_with_len 0 128) (λ j. packed 8 (8 * j) (within n f)) ∙ length-range_with_len 0 128
 
 within_same : (n : ℕ) (f g : Fn) → Same n f g → within n f ≡ within n g
 within_same n f g e = fun_ext (λ w. ⊎_elim
