@@ -7,6 +7,7 @@ pub mod Gating
 pub mod Varying
 pub mod Stacking
 pub mod Walking
+pub mod Telling
 pub mod Backs
 pub mod Starting
 pub mod Joining

@@ -1,9 +1,11 @@
 -- What the parts of the builder promise one another: s is what the store shows before, and t after.
-use Rattle.std.specs.Prelude.{◌≡◌, ℕ, ◌+◌, ◌*◌, ◌<◌, ◌≤◌, true, false, List, [], ◌∷◌, ◌++◌, length, Result, slice_index}
+use Rattle.std.specs.Prelude.{◌≡◌, ℕ, ◌+◌, ◌-◌, ◌*◌, ◌<◌, ◌≤◌}
+use Rattle.std.specs.Prelude.{true, false, List, [], ◌∷◌, ◌++◌, length, Ok, Err, Result, MatchResult, slice_index, slice_index_or}
 use Rattle.arrayvec.specs.ArrayVec.{ArrayVec}
 use Rattle.store.specs.declared.refusal.Refusal.{Refusal}
+use Rattle.store.specs.declared.refusal.Refusal.TheVariants.{Number, Variable, Room}
 use Rattle.store.specs.Fun.{Fn, bit, fix}
-use Rattle.store.specs.Meaning.{Shown, Lawful}
+use Rattle.store.specs.Meaning.{Shown, Lawful, price, free}
 use Rattle.circuit.specs.declared.gate.Gate.{Gate}
 use Rattle.circuit.specs.Literals.{Literal}
 use Rattle.circuit.specs.Netlists.{Netlist, lines, gate_line}
@@ -20,7 +22,7 @@ use Rattle.runs.specs.Functions.{copy, both, either, composed, composed_all, qua
 use Rattle.runs.specs.Valuations.{literal_fn, line_fn, claim_fn, next_fn, init_fn}
 use Rattle.runs.specs.Models.{Model, sizes}
 use Rattle.making.specs.Models.{model, width}
-use Rattle.making.specs.Making.{at, Means, Numbered, Polar, Paired}
+use Rattle.making.specs.Making.{at, Means, Numbered, Polar, unpaired, Paired}
 use Rattle.making.specs.Pieces.{composed_list, composed_all_list, halves_list, quantified_list, negations_list, variables_list, literal_list, gate_list, gates_list, operators_list}
 use Rattle.making.specs.Loads.{first_list, start_list, load_list, back_list, registers_of, Kept, Loaded}
 use Rattle.making.specs.Ends.{Ends, plain, located, Gives}
@@ -105,3 +107,59 @@ Builds s c hs qs r t = (h q : Tree) → hs ≡ post h → qs ≡ post q → Know
 abbrev pub StepsBack : Shown → ℕ → Parts → Result ℕ Refusal → Shown → Type 0
 StepsBack s a k r t = (p : Part) (l : ℕ) (f h : Fn) (next : ℕ → Fn) → Means s a f → Kept s k next h
     → Gives plain s t (back_list p l (registers_of k) k.m next h f) (back_of (registers_of k) k.m next h f) r
+
+-- What is answered whatever the numbers: `given` says that those given are held before, and each variable asked for is
+-- below n.
+pub data Tells {X : Type 0} (s t : Shown) (given : Type 0) (n : ℕ) (P : X → Type 0) : Result X Refusal → Type 0 where
+  answered : {x : X} → P x → Tells s t given n P (Ok x)
+  -- the free units, which some function's price exceeds
+  full : (f : Fn) → Lawful t → free t < price t f → Tells s t given n P (Err (Room (free t)))
+  -- not all numbers given were held
+  unheld : Lawful t → (given → ⊥) → Tells s t given n P (Err Number)
+  -- the store has too few variables
+  narrow : Lawful t → s.vars < n → Tells s t given n P (Err Variable)
+
+-- where number a is not held, that is told, and the store shows what it showed
+abbrev pub Refuses : {X : Type 0} → Shown → ℕ → Result X Refusal → Shown → Type 0
+Refuses s a r t = s.held a ≡ false → (t ≡ s) × (r ≡ Err Number)
+
+-- that, or a itself is answered
+abbrev pub Passes : Shown → ℕ → Result ℕ Refusal → Shown → Type 0
+Passes s a r t = s.held a ≡ false → (t ≡ s) × MatchResult r (λ b. b ≡ a) (λ e. e ≡ Number)
+
+-- both numbers of a pair are held
+pub record HeldPair (s : Shown) (p : Polarities) : Type 0 where
+  pub function : s.held p.function ≡ true
+  pub negation : s.held p.negation ≡ true
+
+abbrev pub HeldPairs : Shown → List Polarities → Type 0
+HeldPairs s ps = (i : ℕ) → i < length ps → HeldPair s (slice_index_or ps i unpaired)
+
+-- what the parts of a step back tell whatever the numbers
+abbrev pub CofactorsTold : Shown → ℕ → ℕ → Result (ℕ × ℕ) Refusal → Shown → Type 0
+CofactorsTold s a x r t = Tells s t (s.held a ≡ true) (x + 1) (λ c. (t.held c.0 ≡ true) × (t.held c.1 ≡ true)) r
+
+abbrev pub ComposesTold : Shown → ℕ → ℕ → Polarities → Result ℕ Refusal → Shown → Type 0
+ComposesTold s a x b r t = Tells s t ((s.held a ≡ true) × HeldPair s b) (x + 1) (λ c. t.held c ≡ true) r
+
+abbrev pub ComposesAllTold : Shown → ℕ → ℕ → List Polarities → Result ℕ Refusal → Shown → Type 0
+ComposesAllTold s a first bs r t = Tells s t ((s.held a ≡ true) × HeldPairs s bs) (first + 2 * length bs - 1)
+    (λ c. s.held a ≡ true → t.held c ≡ true) r
+
+abbrev pub ExistsTold : Shown → ℕ → ℕ → Result ℕ Refusal → Shown → Type 0
+ExistsTold s a x r t = Tells s t (s.held a ≡ true) (x + 1) (λ c. t.held c ≡ true) r
+
+abbrev pub ExistsAllTold : Shown → ℕ → ℕ → ℕ → Result ℕ Refusal → Shown → Type 0
+ExistsAllTold s a first m r t = Tells s t (s.held a ≡ true) (first + m) (λ c. s.held a ≡ true → t.held c ≡ true) r
+
+-- all numbers that a step back is given are held
+pub record AllHeld (s : Shown) (from : ℕ) (k : Parts) : Type 0 where
+  pub source : s.held from ≡ true
+  pub copies : HeldPairs s k.copies.items
+  pub nexts : HeldPairs s k.nexts.items
+  pub assumed : s.held k.assumed ≡ true
+
+-- what a step back tells whatever the numbers: a number that is then held, and the store is lawful, too
+pub record Behaves (s : Shown) (from : ℕ) (k : Parts) (r : Result ℕ Refusal) (t : Shown) : Type 0 where
+  pub tells : Tells s t (AllHeld s from k) (2 * registers_of k + k.m) (λ a. Lawful t × (t.held a ≡ true)) r
+  pub refuses : Refuses s from r t

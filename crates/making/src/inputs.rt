@@ -1,7 +1,7 @@
 // Functions under some values of the inputs.
 ghost use Rattle.std.specs.Prelude.{◌+◌, ◌<◌};
 ghost use Rattle.store.specs.Meaning.{Grown};
-ghost use Rattle.making.specs.Promises.{Exists, ExistsAll};
+ghost use Rattle.making.specs.Promises.{Exists, ExistsAll, ExistsTold, ExistsAllTold};
 
 use crate::substitution::cofactors;
 use store::Store;
@@ -11,6 +11,7 @@ use store::refusal::Refusal;
 fn exists<S: Store>(store: &mut S, a: u16, x: u8) -> Result<u16, Refusal>
     ensures grown { Grown (S.Store.shows store.old) (S.Store.shows store.new) }
     ensures gives { Exists (S.Store.shows store.old) a x result (S.Store.shows store.new) }
+    ensures tells { ExistsTold (S.Store.shows store.old) a x result (S.Store.shows store.new) }
 {
     let (low, high) = cofactors(store, a, x)?;
     store.or(low, high)
@@ -21,6 +22,7 @@ pub(crate) fn exists_all<S: Store>(store: &mut S, a: u16, first: u8, m: u8) -> R
     requires { first + m < 256 }
     ensures grown { Grown (S.Store.shows store.old) (S.Store.shows store.new) }
     ensures gives { ExistsAll (S.Store.shows store.old) a first m result (S.Store.shows store.new) }
+    ensures tells { ExistsAllTold (S.Store.shows store.old) a first m result (S.Store.shows store.new) }
 {
     let mut f = a;
     for x in first..first + m {

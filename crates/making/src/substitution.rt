@@ -2,6 +2,7 @@
 ghost use Rattle.std.specs.Prelude.{◌+◌, ◌*◌, ◌<◌, length};
 ghost use Rattle.store.specs.Meaning.{Grown};
 ghost use Rattle.making.specs.Promises.{Cofactors, Composes, ComposesAll};
+ghost use Rattle.making.specs.Promises.{CofactorsTold, ComposesTold, ComposesAllTold, Refuses, Passes};
 
 use crate::parts::Polarities;
 use store::Store;
@@ -11,6 +12,8 @@ use store::refusal::Refusal;
 pub(crate) fn cofactors<S: Store>(store: &mut S, a: u16, x: u8) -> Result<(u16, u16), Refusal>
     ensures grown { Grown (S.Store.shows store.old) (S.Store.shows store.new) }
     ensures gives { Cofactors (S.Store.shows store.old) a x result (S.Store.shows store.new) }
+    ensures tells { CofactorsTold (S.Store.shows store.old) a x result (S.Store.shows store.new) }
+    ensures refuses { Refuses (S.Store.shows store.old) a result (S.Store.shows store.new) }
 {
     let low = store.cofactor(a, x, false)?;
     let high = store.cofactor(a, x, true)?;
@@ -26,6 +29,8 @@ pub(crate) fn compose<S: Store>(
 ) -> Result<u16, Refusal>
     ensures grown { Grown (S.Store.shows store.old) (S.Store.shows store.new) }
     ensures gives { Composes (S.Store.shows store.old) a x by result (S.Store.shows store.new) }
+    ensures tells { ComposesTold (S.Store.shows store.old) a x by result (S.Store.shows store.new) }
+    ensures refuses { Refuses (S.Store.shows store.old) a result (S.Store.shows store.new) }
 {
     let (low, high) = cofactors(store, a, x)?;
     let over = store.and(by.function, high)?;
@@ -43,6 +48,8 @@ pub(crate) fn compose_all<S: Store>(
     requires { first + 2 * length by.now < 256 }
     ensures grown { Grown (S.Store.shows store.old) (S.Store.shows store.new) }
     ensures gives { ComposesAll (S.Store.shows store.old) a first by.now result (S.Store.shows store.new) }
+    ensures tells { ComposesAllTold (S.Store.shows store.old) a first by.now result (S.Store.shows store.new) }
+    ensures passes { Passes (S.Store.shows store.old) a result (S.Store.shows store.new) }
 {
     let mut f = a;
     for (i, polarities) in by.iter().enumerate() {

@@ -7,9 +7,10 @@ use Rattle.runs.specs.Functions.{quantified}
 use Rattle.making.specs.Making.{Runs, ended, Means, at}
 use Rattle.making.specs.Pieces.{halves_list, quantified_list}
 use Rattle.making.specs.Ends.{Ends, made, plain}
-use Rattle.making.specs.Promises.{Exists}
+use Rattle.making.specs.Promises.{Exists, answered}
 use Rattle.making.proofs.Steps.{grown_none, grown_more, runs_grown, runs_of, broke, ends_after}
 use Rattle.making.proofs.Loops.{ends_upto}
+use Rattle.making.proofs.Telling.{told, leaves}
 use Rattle.making.proofs.inputs.exists_all.Goals as goal
 
 -- variable x is given both values in turn k
@@ -29,6 +30,7 @@ loop-x-init g c = (
       let s = g.S.Store.shows c.args.store.now in
       subst (λ k. Runs s (quantified_list p q c.args.first f k) s × Means s c.args.a (quantified c.args.first f k)) e (ended, ma),
   grown_none,
+  λ h. h,
 )
 
 pub returns-in_err-f : goal.returns-in_err-f
@@ -40,6 +42,8 @@ returns-in_err-f g c = record {
       (ends_upto (λ j. at p q (halves_list (first + j) (quantified first f j))) (suc (x - first)) c.args.m (omega arith)
       (turn p q first f x (x - first) c.loop-x.f (omega arith) (omega (arith, li)) (c.loop-x.invariant.0 p q f ma li) (Err c.in_err-f.field-0.0) c.in_err-f.ensures.gives));
   grown = grown_more c.loop-x.invariant.1 c.in_err-f.ensures.grown;
+  tells =
+      leaves c.from_residual.result c.in_err-f.field-0.0 c.from_residual.ensures.1 c.loop-x.invariant.1 c.loop-x.invariant.2 (omega arith) c.in_err-f.ensures.tells;
 }
 
 pub loop-x-preserved : goal.loop-x-preserved
@@ -53,6 +57,7 @@ loop-x-preserved g c = (
       subst (λ k. Runs s (quantified_list p q first f k) u × Means u c.in_ok-f.f (quantified first f k)) e
       (runs_of (turn p q first f x (x - first) c.loop-x.f (omega arith) (omega (arith, li)) (c.loop-x.invariant.0 p q f ma li) (Ok c.in_ok-f.f) c.in_ok-f.ensures.gives)),
   grown_more c.loop-x.invariant.1 c.in_ok-f.ensures.grown,
+  λ h. told c.in_ok-f.ensures.tells,
 )
 
 pub returns : goal.returns
@@ -65,4 +70,5 @@ returns g c = record {
       let r = subst (λ k. Runs s (quantified_list p q first f k) u × Means u c.loop-x.f (quantified first f k)) e (c.loop-x.invariant.0 p q f ma li) in
       made r.0 r.1;
   grown = c.loop-x.invariant.1;
+  tells = answered c.loop-x.invariant.2;
 }

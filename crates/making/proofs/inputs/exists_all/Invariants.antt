@@ -1,4 +1,4 @@
-use Rattle.std.proofs.Common.{ℕ, ◌+◌, ◌-◌, ◌≤◌}
+use Rattle.std.proofs.Common.{◌≡◌, ℕ, ◌+◌, ◌-◌, ◌≤◌, true}
 use Rattle.store.specs.Fun.{Fn}
 use Rattle.store.specs.Meaning.{Grown}
 use Rattle.description.specs.declared.part.Part.{Part}
@@ -14,3 +14,4 @@ invariant-loop-x g l = ((p : Part) (q : ℕ) (f : Fn)
     → Runs (g.S.Store.shows l.initial.store) (quantified_list p q l.first f (l.x - l.first)) (g.S.Store.shows l.store)
     × Means (g.S.Store.shows l.store) l.f (quantified l.first f (l.x - l.first)))
     × Grown (g.S.Store.shows l.initial.store) (g.S.Store.shows l.store)
+    × ((g.S.Store.shows l.initial.store).held l.a ≡ true → (g.S.Store.shows l.store).held l.f ≡ true)

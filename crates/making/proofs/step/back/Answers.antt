@@ -1,7 +1,10 @@
+use Rattle.std.proofs.Common.{refl, ◌∙◌, arith}
+use Rattle.std.proofs.lemmas.Bool.{and_from}
 use Rattle.runs.specs.Functions.{both, copied, pre_image}
 use Rattle.making.specs.Loads.{registers_of}
-use Rattle.making.proofs.Steps.{kept, runs_grown, grown_more, runs_of, broke, ends_after, ends_before, and_answers, or_answers, gives_last, ends_here, reply_grown}
+use Rattle.making.proofs.Steps.{kept, grown_none, runs_grown, grown_more, runs_of, broke, ends_after, ends_before, and_answers, or_answers, gives_last, ends_here, reply_grown}
 use Rattle.making.proofs.Backs.{kept_all, puts_copies, puts_nexts}
+use Rattle.making.proofs.Telling.{tells_reply, no_variable, told, finishes, leaves, number_by, refused_by, accepted, held_pairs, still_unheld, and_refuses, held_copies, held_nexts, fit_copies, fit_nexts}
 use Rattle.making.proofs.step.back.Goals as goal
 
 pub returns-in_err-copied-clause-gives : goal.returns-in_err-copied-clause-gives
@@ -68,3 +71,60 @@ returns-clause-grown g c =
     grown_more c.in_ok-copied.ensures.grown
     (grown_more c.in_ok-led.ensures.grown
     (grown_more (reply_grown c.in_ok-allowed.ensures) (grown_more c.in_ok-some.ensures.grown (reply_grown c.or.ensures))))
+
+pub returns-in_err-copied-clause-behaves : goal.returns-in_err-copied-clause-behaves
+returns-in_err-copied-clause-behaves g c =
+    let b = c.from_residual.ensures.1 in
+    record {
+      tells = leaves c.from_residual.result c.in_err-copied.field-0.0 b grown_none (λ h. (h.source, held_copies c.deref.ensures.0 h))
+          (fit_copies c.args.parts.now c.deref.ensures.0) c.in_err-copied.ensures.tells;
+      refuses = λ h. number_by c.from_residual.result c.in_err-copied.field-0.0 b (c.in_err-copied.ensures.passes h);
+    }
+
+pub returns-in_err-led-clause-behaves : goal.returns-in_err-led-clause-behaves
+returns-in_err-led-clause-behaves g c =
+    let b = c.from_residual-in_err-led.ensures.1 in
+    let w = c.in_ok-copied.ensures.grown in
+    record {
+      tells = leaves c.from_residual-in_err-led.result c.in_err-led.field-0.0 b w
+          (λ h. (told c.in_ok-copied.ensures.tells h.source, held_pairs _ w (held_nexts c.deref-2.ensures.0 h)))
+          (fit_nexts c.args.parts.now c.deref-2.ensures.0) c.in_err-led.ensures.tells;
+      refuses = λ h.
+          let first = c.in_ok-copied.ensures.passes h in
+          let second = c.in_err-led.ensures.passes (still_unheld h first) in
+          number_by c.from_residual-in_err-led.result c.in_err-led.field-0.0 b (second.0 ∙ first.0, second.1);
+    }
+
+pub returns-in_err-allowed-clause-behaves : goal.returns-in_err-allowed-clause-behaves
+returns-in_err-allowed-clause-behaves g c =
+    let b = c.from_residual-in_err-allowed.ensures.1 in
+    let w = grown_more c.in_ok-copied.ensures.grown c.in_ok-led.ensures.grown in
+    record {
+      tells = leaves c.from_residual-in_err-allowed.result c.in_err-allowed.field-0.0 b w
+          (λ h. and_from _ _ (told c.in_ok-led.ensures.tells (told c.in_ok-copied.ensures.tells h.source)) (w.kept _ h.assumed).0)
+          (omega arith) (tells_reply 0 c.in_err-allowed.ensures no_variable);
+      refuses = λ h.
+          refused_by c.from_residual-in_err-allowed.result c.in_err-allowed.field-0.0 refl b
+          (and_refuses _ c.in_ok-copied.ensures.passes c.in_ok-led.ensures.passes c.in_err-allowed.ensures h);
+    }
+
+pub returns-in_err-some-clause-behaves : goal.returns-in_err-some-clause-behaves
+returns-in_err-some-clause-behaves g c =
+    let w = grown_more c.in_ok-copied.ensures.grown (grown_more c.in_ok-led.ensures.grown (reply_grown c.in_ok-allowed.ensures)) in
+    record {
+      tells = leaves c.from_residual-in_err-some.result c.in_err-some.field-0.0 c.from_residual-in_err-some.ensures.1 w
+          (λ _. (told (tells_reply 0 c.in_ok-allowed.ensures no_variable)).1)
+          (omega arith) (rw (c.first_input.ensures, c.registers.ensures.counts) at c.in_err-some.ensures.tells);
+      refuses = λ h. accepted _ refl (and_refuses _ c.in_ok-copied.ensures.passes c.in_ok-led.ensures.passes c.in_ok-allowed.ensures h);
+    }
+
+pub returns-clause-behaves : goal.returns-clause-behaves
+returns-clause-behaves g c =
+    let w = grown_more c.in_ok-copied.ensures.grown
+    (grown_more c.in_ok-led.ensures.grown (grown_more (reply_grown c.in_ok-allowed.ensures) c.in_ok-some.ensures.grown)) in
+    let allowed = told (tells_reply 0 c.in_ok-allowed.ensures no_variable) in
+    record {
+      tells = finishes c.or.result w (λ h. and_from _ _ (told c.in_ok-some.ensures.tells allowed.1) (w.kept _ h.source).0)
+          (omega arith) (λ b p. p) (tells_reply 0 c.or.ensures no_variable);
+      refuses = λ h. accepted _ refl (and_refuses _ c.in_ok-copied.ensures.passes c.in_ok-led.ensures.passes c.in_ok-allowed.ensures h);
+    }

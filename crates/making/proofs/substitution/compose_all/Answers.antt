@@ -1,4 +1,4 @@
-use Rattle.std.proofs.Common.{◌≡◌, ℕ, suc, ◌+◌, ◌*◌, ◌<◌, List, length, get_or, Ok, Err, Result, sym, subst, add-one, arith}
+use Rattle.std.proofs.Common.{◌≡◌, ℕ, suc, ◌+◌, ◌*◌, ◌<◌, List, length, get_or, Ok, Err, Result, sym, refl, subst, add-one, arith}
 use Rattle.store.specs.declared.refusal.Refusal.{Refusal}
 use Rattle.store.specs.Fun.{Fn}
 use Rattle.store.specs.Meaning.{Shown}
@@ -8,9 +8,10 @@ use Rattle.making.specs.declared.parts.Polarities.{Polarities}
 use Rattle.making.specs.Making.{Runs, ended, Means, unpaired, Paired, at}
 use Rattle.making.specs.Pieces.{composed_list, composed_all_list}
 use Rattle.making.specs.Ends.{Ends, made, plain}
-use Rattle.making.specs.Promises.{Composes}
+use Rattle.making.specs.Promises.{Composes, answered}
 use Rattle.making.proofs.Steps.{grown_none, grown_more, runs_grown, runs_of, broke, ends_after}
 use Rattle.making.proofs.Loops.{ends_upto, paired_kept}
+use Rattle.making.proofs.Telling.{told, leaves, refused_by, accepted, held_pairs, still_unheld, passes_by}
 use Rattle.making.proofs.substitution.compose_all.Goals as goal
 
 -- turn k
@@ -30,6 +31,8 @@ loop-i-init g c = (
   λ p q x f h vs ma mb li.
       (ended, ma),
   grown_none,
+  λ h. h,
+  λ h. (refl, refl),
 )
 
 pub returns-in_err-f : goal.returns-in_err-f
@@ -42,6 +45,15 @@ returns-in_err-f g c = record {
       (ends_upto (λ i. at p q (composed_list (x i) (h i) (composed_all x h f i))) (suc k) (length bs) lt
       (turn p q x f h c.args.first bs k c.loop-i.f vs mb li lt (c.loop-i.invariant.0 p q x f h vs ma mb li) (Err c.in_err-f.field-0.0) c.in_err-f.ensures.gives));
   grown = grown_more c.loop-i.invariant.1 c.in_err-f.ensures.grown;
+  tells =
+      let w = c.loop-i.invariant.1 in
+      let lt : c.loop-i.i < length c.args.by.now = c.loop-i-test.true in
+      leaves c.from_residual.result c.in_err-f.field-0.0 c.from_residual.ensures.1 w
+      (λ h. (c.loop-i.invariant.2 h.0, held_pairs c.args.by.now w h.1 c.loop-i.i lt)) (omega (arith, lt)) c.in_err-f.ensures.tells;
+  passes = λ h.
+      let still = c.loop-i.invariant.3 h in
+      passes_by c.args.a still.0
+      (refused_by c.from_residual.result c.in_err-f.field-0.0 refl c.from_residual.ensures.1 (c.in_err-f.ensures.refuses (still_unheld h still)));
 }
 
 pub loop-i-preserved : goal.loop-i-preserved
@@ -53,6 +65,8 @@ loop-i-preserved g c = (
       subst (λ n. Runs s (composed_all_list p q x h f n) u × Means u c.in_ok-f.f (composed_all x h f n)) (sym (add-one k))
       (runs_of (turn p q x f h c.args.first c.args.by.now k c.loop-i.f vs mb li c.loop-i-test.true (c.loop-i.invariant.0 p q x f h vs ma mb li) (Ok c.in_ok-f.f) c.in_ok-f.ensures.gives)),
   grown_more c.loop-i.invariant.1 c.in_ok-f.ensures.grown,
+  λ h. told c.in_ok-f.ensures.tells,
+  λ h. accepted _ refl (c.in_ok-f.ensures.refuses (still_unheld h (c.loop-i.invariant.3 h))),
 )
 
 pub returns : goal.returns
@@ -64,4 +78,6 @@ returns g c = record {
       let r = subst (λ n. Runs s (composed_all_list p q x h f n) u × Means u c.loop-i.f (composed_all x h f n)) e (c.loop-i.invariant.0 p q x f h vs ma mb li) in
       made r.0 r.1;
   grown = c.loop-i.invariant.1;
+  tells = answered c.loop-i.invariant.2;
+  passes = c.loop-i.invariant.3;
 }

@@ -1,4 +1,4 @@
-use Rattle.std.proofs.Common.{◌≡◌, ℕ, ◌+◌, ◌*◌, ◌<◌, length}
+use Rattle.std.proofs.Common.{◌≡◌, ℕ, ◌+◌, ◌*◌, ◌<◌, true, false, length}
 use Rattle.store.specs.Fun.{Fn}
 use Rattle.store.specs.Meaning.{Grown}
 use Rattle.description.specs.declared.part.Part.{Part}
@@ -16,3 +16,5 @@ invariant-loop-i g l = ((p : Part) (q : ℕ) (x : ℕ → ℕ) (f : Fn) (h : ℕ
     → Runs (g.S.Store.shows l.initial.store) (composed_all_list p q x h f l.i) (g.S.Store.shows l.store)
     × Means (g.S.Store.shows l.store) l.f (composed_all x h f l.i))
     × Grown (g.S.Store.shows l.initial.store) (g.S.Store.shows l.store)
+    × ((g.S.Store.shows l.initial.store).held l.a ≡ true → (g.S.Store.shows l.store).held l.f ≡ true)
+    × ((g.S.Store.shows l.initial.store).held l.a ≡ false → (g.S.Store.shows l.store ≡ g.S.Store.shows l.initial.store) × (l.f ≡ l.a))

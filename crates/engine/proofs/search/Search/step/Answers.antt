@@ -1,10 +1,11 @@
-use Rattle.std.proofs.Common.{◌≡◌, ℕ, cond, [], Ok, refl, ◌∙◌}
+use Rattle.std.proofs.Common.{◌≡◌, ℕ, true, cond, [], Ok, refl, ◌∙◌}
 use Rattle.store.specs.Meaning.{Shown, Lawful}
 use Rattle.description.specs.declared.part.Part.TheVariants.{Sets}
 use Rattle.making.specs.Ends.{Ends, made, plain}
 use Rattle.making.specs.Making.{Means, Runs}
 use Rattle.making.proofs.Placing.{placed_err, placed_ok, placed_made}
 use Rattle.making.proofs.Steps.{ends_before, ends_refused, broke}
+use Rattle.making.proofs.Telling.{told_if}
 use Rattle.runs.specs.Models.{Model}
 use Rattle.runs.specs.Valuations.{back_fn}
 use Rattle.engine.specs.Advancing.{Ready}
@@ -31,7 +32,7 @@ module _ (g : _) (c : After-place_at g) (m : Model) (d : Ready (g.S.Store.shows 
     next = placed_ok Sets i c.back.result c.place_at.ensures (lies m i) backs p
 
     lawful : Lawful t
-    lawful = placed_made (λ _. Lawful t) Sets i c.back.result c.place_at.ensures p c.back.ensures.lawful
+    lawful = (placed_made (λ b. Lawful t × (t.held b ≡ true)) Sets i c.back.result c.place_at.ensures p (told_if c.back.ensures.behaves.tells)).0
 
 pub returns-in_err-set : goal.returns-in_err-set
 returns-in_err-set g c m j e = at_count m _ _ (c.len-count.ensures.value ∙ e.count) e (λ d.
