@@ -2,6 +2,7 @@ pub mod Told
 pub mod Written
 pub mod Uses
 mod Unchanged
+mod Insides
 pub mod Promises
 mod Determined
 mod Possible

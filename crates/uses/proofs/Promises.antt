@@ -1,6 +1,6 @@
 -- From a use of a session to what is promised of it.
-use Rattle.std.proofs.Common.{◌≡◌, ℕ, suc, ◌≤◌, List, ◌∷◌, All, length, get_or, Some, Ok, Err, sym, refl, ap}
-use Rattle.std.proofs.Common.{subst, mul-le-mul_right, arith}
+use Rattle.std.proofs.Common.{◌≡◌, ◌≢◌, ℕ, suc, ◌≤◌, ◌⊎◌, Bool, not, Decides, List, ◌∷◌, All, length, get_or}
+use Rattle.std.proofs.Common.{Some, Ok, Err, sym, refl, ap, subst, inl, inr, mul-le-mul_right, arith}
 use Rattle.std.proofs.lemmas.List.Elements.{All-nil, All-cons}
 use Rattle.store.specs.Meaning.{Shown, free}
 use Rattle.description.specs.Checks.{Checked, right}
@@ -11,16 +11,18 @@ use Rattle.making.specs.Loads.{load_list, advance_list}
 use Rattle.making.proofs.Bounds.{runs_held, stops_bound, stops_above}
 use Rattle.making.specs.Bounds.{load_bound, advance_bound}
 use Rattle.making.proofs.Lengths.{load_texts, advance_length}
-use Rattle.runs.specs.Systems.{Breaking}
+use Rattle.runs.specs.Systems.{State, Breaking, BreakingFrom}
 use Rattle.runs.specs.Search as search
-use Rattle.runs.specs.Verdicts.{Unsafe, Meaning}
+use Rattle.runs.specs.Verdicts.{Safe, Unsafe, Meaning}
 use Rattle.runs.specs.Models.{Model, system}
 use Rattle.runs.proofs.Verdicts.{verdicts}
 use Rattle.runs.proofs.Traces as runs
 use Rattle.uses.specs.declared.fault.Fault.TheVariants.{Making}
-use Rattle.uses.specs.Calls.{State, empty, loaded, tell, told, Call, load, advance, trace, answered}
+use Rattle.uses.specs.declared.fault.Fault.TheVariants as fault
+use Rattle.uses.specs.Calls.{State as Now, empty, loaded, tell, told, Call, load, advance, trace, inside, answered}
 use Rattle.uses.specs.Calls.{Stand, Event, event}
 use Rattle.uses.specs.declared.verdict.Verdict.{Verdict}
+use Rattle.uses.specs.declared.verdict.Verdict.TheVariants as verdict
 use Rattle.uses.specs.Uses.{Step, load_twice, load_wrong, load_full, loads, advance_empty, advance_settled}
 use Rattle.uses.specs.Uses.{advance_full, advances, asks, trace_empty, trace_verdict, trace_short, traces}
 use Rattle.uses.specs.Uses.{inside_empty, inside_verdict, inside_state, insides, Use, begun, went_on}
@@ -31,6 +33,7 @@ use Rattle.uses.proofs.Told.{never, tell_not_empty, tell_safe, tell_open, tell_u
 use Rattle.uses.proofs.Written.{written_at, breaking_like}
 use Rattle.uses.proofs.Unchanged.{same_but, same_arrays}
 use Rattle.runs.proofs.Models.{closed}
+use Rattle.uses.proofs.Insides.{inside_tells}
 use Rattle.uses.proofs.Uses.{step_grown, Come, come}
 
 short_of :
@@ -113,6 +116,54 @@ traced s h g (traces {m = m} {j = j} {x = x} {y = y} q v o lx ly d) = (
       ((runs.traces (system m) (closed m) j g.reached o).breaking q v d),
 )
 
+told_inside :
+    (s : Shown) (h : List Event) {w v : Stand} {q : ℕ} {answer : Bool}
+    → Come s h w.state
+    → Step w (inside q (Ok answer)) v
+    → (m : Model) × (j : ℕ)
+    × (w.state ≡ loaded m j)
+    × Safe (system m) j
+    × State (system m) q
+    × Decides (not answer) ((d : ℕ) × BreakingFrom (system m) d q)
+told_inside s h {q = q} g (insides {m = m} {j = j} o l) =
+    let safe = (verdicts (system m) (closed m) j g.reached).safely o in
+    (m, j, refl, safe, l, inside_tells (system m) j safe (closed m) q l)
+
+settled :
+    (s : Shown) (h : List Event) {w v : Stand}
+    → Come s h w.state
+    → Step w (advance (Err fault.Settled)) v
+    → (m : Model) × (j : ℕ)
+    × (w.state ≡ loaded m j)
+    × (Safe (system m) j ⊎ Unsafe (system m) j)
+settled s h g (advance_settled {m = m} {j = j} n) = (m, j, refl, by (search.verdict (system m) j) refl)
+  where
+    means : Meaning (system m) j
+    means = verdicts (system m) (closed m) j g.reached
+
+    by : (a : search.Verdict) → search.verdict (system m) j ≡ a → Safe (system m) j ⊎ Unsafe (system m) j
+    by (search.unsafe d) e = inr (means.unsafely d e).1
+    by search.safe e = inl (means.safely e)
+    by search.open_yet e = absurd (n e)
+
+not_unsafe :
+    (s : Shown) (h : List Event) {w v : Stand} {x y x' y' : List ℕ}
+    → Come s h w.state
+    → Step w (trace x y x' y' (Err fault.Verdict)) v
+    → (m : Model) × (j : ℕ)
+    × (w.state ≡ loaded m j)
+    × (Unsafe (system m) j → ⊥)
+not_unsafe s h g (trace_verdict {m = m} {j = j} n) =
+    (m, j, refl, λ u. n ((verdicts (system m) (closed m) j g.reached).exactly u))
+
+not_safe :
+    {w v : Stand} {q : ℕ}
+    → Step w (inside q (Err fault.Verdict)) v
+    → (m : Model) × (j : ℕ)
+    × (w.state ≡ loaded m j)
+    × (told (loaded m j) ≢ verdict.Safe)
+not_safe (inside_verdict {m = m} {j = j} n) = (m, j, refl, λ e. n (tell_safe (search.verdict (system m) j) e))
+
 meant : (m : Model) (j : ℕ) → Meaning (system m) j → Meant m j (told (loaded m j))
 meant m j y = record {
   not_empty = tell_not_empty (search.verdict (system m) j);
@@ -122,7 +173,7 @@ meant m j y = record {
   openly = λ e. y.openly (tell_open (search.verdict (system m) j) e);
 }
 
-says : (s : Shown) (h : List Event) (st : State) → Come s h st → Says st (told st)
+says : (s : Shown) (h : List Event) (st : Now) → Come s h st → Says st (told st)
 says s h empty g = refl
 says s h (loaded m j) g = meant m j (verdicts (system m) (closed m) j g.reached)
 
@@ -167,6 +218,10 @@ fair_step s h {w = w} {v = v} {c = c} k g g' = record {
   advance_room = λ q l u e. advance_room (subst (λ i. Step w i v) e k);
   traced = λ x y x' y' e. traced s h g (subst (λ i. Step w i v) e k);
   same_arrays = λ x y x' y' r e. same_arrays (subst (λ i. Step w i v) e k);
+  insides = λ q r e. told_inside s h g (subst (λ i. Step w i v) e k);
+  settled = λ e. settled s h g (subst (λ i. Step w i v) e k);
+  not_unsafe = λ x y x' y' e. not_unsafe s h g (subst (λ i. Step w i v) e k);
+  not_safe = λ q e. not_safe (subst (λ i. Step w i v) e k);
 }
 
 fair : {s : Shown} {h : List Event} {w : Stand} → Use s h w → All Fair h
@@ -174,7 +229,7 @@ fair begun = All-nil Fair
 fair {s = s} (went_on {history = h} u k) =
     All-cons Fair _ h (fair_step s h k (come u) (come (went_on u k))) (fair u)
 
-accepted : (s : Shown) (h : List Event) (st : State) → Come s h st → Accepted s h st
+accepted : (s : Shown) (h : List Event) (st : Now) → Come s h st → Accepted s h st
 accepted s h empty g = (g.loads_are, g.advances_are)
 accepted s h (loaded m j) g = (g.loaded_by, sym g.advances_are)
 

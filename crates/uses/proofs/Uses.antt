@@ -4,8 +4,7 @@ use Rattle.std.proofs.Common.{sym, refl, ap, ◌∙◌, subst, ⊎_elim, eq-or-l
 use Rattle.std.proofs.lemmas.List.Sums.{sum_by-cons}
 use Rattle.store.specs.Meaning.{Shown, Grown}
 use Rattle.description.specs.Checks.{Checked, right}
-use Rattle.making.specs.Making.{ended}
-use Rattle.making.proofs.Steps.{runs_grown, stops_grown}
+use Rattle.making.proofs.Steps.{grown_none, grown_more, runs_grown, stops_grown}
 use Rattle.runs.specs.Systems.{System}
 use Rattle.runs.specs.Search.{open_yet, verdict, Reached}
 use Rattle.runs.specs.Models.{Model, system, Describes}
@@ -22,9 +21,6 @@ next_reached s j r o i l =
   where
     down : i < suc j → i ≤ j
     down l = omega arith
-
-grown_none : {s : Shown} → Grown s s
-grown_none = runs_grown ended
 
 -- no step loses what the store had
 pub step_grown : {w v : Stand} {c : Call} → Step w c v → Grown w.store v.store
@@ -46,10 +42,14 @@ step_grown (inside_verdict n) = grown_none
 step_grown (inside_state o l) = grown_none
 step_grown (insides o l) = grown_none
 
+-- no use does
+pub use_grown : {s : Shown} {h : List Event} {w : Stand} → Use s h w → Grown s w.store
+use_grown begun = grown_none
+use_grown (went_on u s) = grown_more (use_grown u) (step_grown s)
+
 -- the number of variables never changes
 use_width : {s : Shown} {h : List Event} {w : Stand} → Use s h w → w.store.vars ≡ s.vars
-use_width begun = refl
-use_width (went_on u s) = (step_grown s).vars ∙ use_width u
+use_width u = (use_grown u).vars
 
 -- nothing was accepted
 pub record Idle (h : List Event) : Type 0 where

@@ -1,9 +1,10 @@
--- The rules fix each answer.
-use Rattle.std.specs.Prelude.{◌≡◌, ℕ, Bool, List, Result}
+-- The rules fix what a call answers, hands back and leaves: by its arguments alone, unless the store had no room,
+-- and else by what the store shows after it.
+use Rattle.std.specs.Prelude.{◌≡◌, ℕ, Bool, false, List, Result}
 use Rattle.store.specs.Meaning.{Shown}
 use Rattle.uses.specs.declared.fault.Fault.{Fault}
 use Rattle.uses.specs.declared.verdict.Verdict.{Verdict}
-use Rattle.uses.specs.Calls.{Call, load, advance, ask, trace, inside, Stand, Event}
+use Rattle.uses.specs.Calls.{Call, load, advance, ask, trace, inside, is_full, Stand, Event}
 use Rattle.uses.specs.Uses.{Step, Use}
 
 -- the same call with the same arguments
@@ -16,14 +17,28 @@ pub data Alike : Call → Call → Type 0 where
       → Alike (trace x y x₁ y₁ r) (trace x y x₂ y₂ r')
   both_inside : (q : ℕ) (r r' : Result Bool Fault) → Alike (inside q r) (inside q r')
 
--- after any use, the same call with the same arguments, after which the store shows the same, has one answer,
--- hands back one pair of arrays and leaves one state
-abbrev pub Determined : Type 0
-Determined =
-    (start : Shown) (history : List Event) (before after after' : Stand) (call call' : Call)
-    → Use start history before
-    → Alike call call'
-    → Step before call after
-    → Step before call' after'
-    → after.store ≡ after'.store
-    → (call ≡ call') × (after.state ≡ after'.state)
+-- one answer, one pair of arrays and one state
+abbrev pub One : Call → Call → Stand → Stand → Type 0
+One call call' after after' = (call ≡ call') × (after.state ≡ after'.state)
+
+-- of two steps from one stand, after any use, with the same call and arguments
+pub record Determined : Type 0 where
+  -- the store shows the same after both
+  pub same_end :
+      (start : Shown) (history : List Event) (before after after' : Stand) (call call' : Call)
+      → Use start history before
+      → Alike call call'
+      → Step before call after
+      → Step before call' after'
+      → after.store ≡ after'.store
+      → One call call' after after'
+  -- whatever it shows, neither was refused for room
+  pub any_end :
+      (start : Shown) (history : List Event) (before after after' : Stand) (call call' : Call)
+      → Use start history before
+      → Alike call call'
+      → Step before call after
+      → Step before call' after'
+      → is_full call ≡ false
+      → is_full call' ≡ false
+      → One call call' after after'

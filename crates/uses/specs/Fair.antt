@@ -1,5 +1,6 @@
 -- What one call of a use was.
-use Rattle.std.specs.Prelude.{◌≡◌, ℕ, suc, ◌*◌, ◌<◌, ◌≤◌, false, List, length, Some, Ok, Err, slice_index}
+use Rattle.std.specs.Prelude.{◌≡◌, ◌≢◌, ℕ, suc, ◌*◌, ◌<◌, ◌≤◌, ◌⊎◌, Bool, false, not, Decides}
+use Rattle.std.specs.Prelude.{List, length, Some, Ok, Err, slice_index}
 use Rattle.store.specs.Meaning.{Shown, Grown, free, price}
 use Rattle.description.specs.Checks.{Checked}
 use Rattle.description.specs.declared.part.Part.{Part}
@@ -8,12 +9,13 @@ use Rattle.making.specs.Making.{Item, Runs, Stops, Held}
 use Rattle.making.specs.Loads.{load_list, advance_list}
 use Rattle.making.specs.Bounds.{load_bound, advance_bound}
 use Rattle.runs.specs.Models.{Model, system}
-use Rattle.runs.specs.Systems.{Breaking}
-use Rattle.runs.specs.Verdicts.{Unsafe}
+use Rattle.runs.specs.Systems.{State, Breaking, BreakingFrom}
+use Rattle.runs.specs.Verdicts.{Safe, Unsafe}
 use Rattle.uses.specs.declared.fault.Fault.{Fault}
-use Rattle.uses.specs.declared.fault.Fault.TheVariants.{Making}
-use Rattle.uses.specs.declared.verdict.Verdict.{Verdict}
-use Rattle.uses.specs.Calls.{loaded, load, advance, trace, Event, answered, is_load, is_advance, is_full}
+use Rattle.uses.specs.declared.fault.Fault.TheVariants.{Making, Settled, Verdict}
+use Rattle.uses.specs.declared.verdict.Verdict.{Verdict as Answer}
+use Rattle.uses.specs.declared.verdict.Verdict.TheVariants as verdict
+use Rattle.uses.specs.Calls.{loaded, told, load, advance, trace, inside, Event, answered, is_load, is_advance, is_full}
 use Rattle.uses.specs.Uses.{Step}
 use Rattle.uses.specs.Says.{Says}
 
@@ -51,10 +53,10 @@ pub record Fair (event : Event) : Type 0 where
       → is_full event.call ≡ false
       → event.after.store ≡ event.before.store
   -- a verdict that it answers means what it says
-  pub says : (answer : Verdict) → answered event.call ≡ Some answer → Says event.after.state answer
+  pub says : (answer : Answer) → answered event.call ≡ Some answer → Says event.after.state answer
   -- the list of an accepted load or advance was made, and that of one refused for room was not
   pub load_accepted :
-      (file a p : List ℕ) (answer : Verdict)
+      (file a p : List ℕ) (answer : Answer)
       → event.call ≡ load file a p (Ok answer)
       → (m : Model)
       × (event.after.state ≡ loaded m 0)
@@ -67,7 +69,7 @@ pub record Fair (event : Event) : Type 0 where
       × Checked event.before.store.vars file a p (Ok m)
       × ShortOf event.before.store event.after.store (load_list m) (load_bound m (length a) (length p)) part place units
   pub advance_accepted :
-      (answer : Verdict)
+      (answer : Answer)
       → event.call ≡ advance (Ok answer)
       → (m : Model) × (j : ℕ)
       × (event.before.state ≡ loaded m j)
@@ -91,3 +93,31 @@ pub record Fair (event : Event) : Type 0 where
       (x y x' y' : List ℕ) (reason : Fault)
       → event.call ≡ trace x y x' y' (Err reason)
       → (x' ≡ x) × (y' ≡ y)
+  -- of a state, after a safe verdict: no exactly when a permitted walk of some length from there breaks the property
+  pub insides :
+      (q : ℕ) (answer : Bool)
+      → event.call ≡ inside q (Ok answer)
+      → (m : Model) × (j : ℕ)
+      × (event.before.state ≡ loaded m j)
+      × Safe (system m) j
+      × State (system m) q
+      × Decides (not answer) ((d : ℕ) × BreakingFrom (system m) d q)
+  -- what is refused for its turn: an advance of a settled verdict, a trace of one that is not unsafe,
+  -- and the inside of one that is not safe
+  pub settled :
+      event.call ≡ advance (Err Settled)
+      → (m : Model) × (j : ℕ)
+      × (event.before.state ≡ loaded m j)
+      × (Safe (system m) j ⊎ Unsafe (system m) j)
+  pub not_unsafe :
+      (x y x' y' : List ℕ)
+      → event.call ≡ trace x y x' y' (Err Verdict)
+      → (m : Model) × (j : ℕ)
+      × (event.before.state ≡ loaded m j)
+      × (Unsafe (system m) j → ⊥)
+  pub not_safe :
+      (q : ℕ)
+      → event.call ≡ inside q (Err Verdict)
+      → (m : Model) × (j : ℕ)
+      × (event.before.state ≡ loaded m j)
+      × (told (loaded m j) ≢ verdict.Safe)

@@ -15,7 +15,7 @@ pub fn uses_keep_the_promise()
     ensures { Promised }
 {}
 
-/// The rules fix each answer, by what the store shows after the call.
+/// The rules fix each answer: by the arguments alone, unless the store had no room, and else by what it then shows.
 pub fn answers_are_determined()
     ensures { Determined }
 {}
