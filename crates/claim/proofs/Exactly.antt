@@ -1,5 +1,5 @@
 -- Each text is read in one way or refused for one fault.
-use Rattle.std.proofs.Common.{◌≡◌, ℕ, ◌⊎◌, List, length, Ok, Err, Result, sym, refl, ap, ◌∙◌, subst, inl, inr, ⊎_elim, arith}
+use Rattle.std.proofs.Common.{◌≡◌, ℕ, ◌≤◌, ◌⊎◌, List, length, Ok, Err, Result, sym, refl, ap, ◌∙◌, subst, inl, inr, ⊎_elim, arith}
 use Rattle.std.proofs.lemmas.Bool.{cases_lt}
 use Rattle.circuit.specs.declared.sizes.Sizes.{Sizes}
 use Rattle.claim.specs.declared.codes.Codes.{Codes}
@@ -9,12 +9,14 @@ use Rattle.claim.specs.Tokens.{Kind, Tok, tok, tokens}
 use Rattle.claim.specs.Grammar.{Tree, post}
 use Rattle.claim.specs.Faults.{place_of, Opens, AtFault, no_claim, no_such, too_deep, Fails, First, Read, Refused, too_long, at_fault}
 use Rattle.claim.specs.Result.{used, Reads}
+use Rattle.claim.specs.Refusals.{FirstFault}
 use Rattle.claim.specs.Exact.{Exact}
 use Rattle.claim.specs.Machine.{State, scan}
 use Rattle.claim.proofs.Places.{Rising, rising, same_place}
-use Rattle.claim.proofs.Runs.{start}
+use Rattle.claim.proofs.Runs.{start, halted}
 use Rattle.claim.proofs.Outcomes.{fault_place, Comes, outcome}
-use Rattle.claim.proofs.Readings.{read_by, read_says, read_sound}
+use Rattle.claim.proofs.Readings.{read_within, read_says, read_sound}
+use Rattle.claim.proofs.Refusals.{met_fails, halt_first, first_from}
 use Rattle.claim.proofs.Trees as trees
 use Rattle.claim.proofs.Spellings as spellings
 use Rattle.claim.proofs.Depths as depths
@@ -65,11 +67,40 @@ module _ (bs : List ℕ) (z : Sizes) where
   either (Ok u) h = inl h
   either (Err f) h = inr (f, h)
 
+  module _ (short : length bs ≤ 512) where
+    to_first : (f : Fault) → Refused bs z f → FirstFault bs z f
+    to_first f r = by (scan z (Ok start) (tokens 0 0 bs)) refl
+      where
+        by : (s : Result State Fault) → scan z (Ok start) (tokens 0 0 bs) ≡ s → FirstFault bs z f
+        by (Ok u) e = let t = outcome z bs short (Ok u) e in absurd (not_both t.0 f t.1 r)
+        by (Err g) e =
+            ⊎_elim (λ w. cc)
+            (λ h. subst (FirstFault bs z) (one_fault g f (outcome z bs short (Err g) e) r) (halt_first z bs g h))
+            (halted z (Ok start) (tokens 0 0 bs) g e)
+
+    from_refused : (f g : Fault) → FirstFault bs z f → Refused bs z g → Refused bs z f
+    from_refused f g h (too_long l) = absurd (omega (arith, l, short))
+    from_refused f g h (at_fault s first) = at_fault short (first_from z bs h (to_first g (at_fault s first)) first)
+
+    from_first : (f : Fault) → FirstFault bs z f → Refused bs z f
+    from_first f h = by (scan z (Ok start) (tokens 0 0 bs)) refl
+      where
+        by : (s : Result State Fault) → scan z (Ok start) (tokens 0 0 bs) ≡ s → Refused bs z f
+        by (Ok u) e =
+            let t = outcome z bs short (Ok u) e in
+            absurd (read_sound z bs t.0 t.1 f (met_fails z bs h.met h.why))
+        by (Err g) e = from_refused f g h (outcome z bs short (Err g) e)
+
   pub exact : Exact bs z
   exact = record {
     spelling = spellings.spelling bs;
     depth = λ ts t d. depths.depth z ts d;
-    reads = λ t. ((λ r. (r.short, read_says z bs t r, read_sound z bs t r)), λ h. read_by z bs t h.0 h.1 h.2);
+    reads = λ t. (
+      (λ r. (r.short, read_says z bs t r, (λ p. read_sound z bs t r (Name p)), λ p. read_sound z bs t r (Deep p))),
+      λ h. read_within z bs t h.0 h.1 h.2 h.3,
+    );
+    sound = λ t r f h. read_sound z bs t r f h;
+    refuses = λ f short. (to_first short f, from_first short f);
     one_tree = λ t u r s. trees.one_tree (read_says z bs t r) (read_says z bs u s);
     one_fault = one_fault;
     not_both = not_both;

@@ -11,6 +11,7 @@ mod Places
 pub mod Outcomes
 mod Tried
 mod Trees
+mod Refusals
 pub mod Exactly
 pub mod Steps
 mod Whole

@@ -33,7 +33,7 @@ module _ (z : Sizes) where
 
   -- a token that halts the machine is at fault
   module _ (ts : List Tok) (s : State) (before : scan z (Ok start) ts ≡ Ok s) where
-    faulty : {f : Fault} {k : Kind} (p : ℕ) → Why z s p k f → AtFault z ts p k f
+    pub faulty : {f : Fault} {k : Kind} (p : ℕ) → Why z s p k f → AtFault z ts p k f
     faulty {k = k} p (stuck n) = no_claim (viable ts s (scan_run z (Ok start) ts s before)) (not_viable (ts ++ tok p k ∷ []) (moved ts s (tok p k) before ∙ n))
     faulty p (flawed u m (unknown far)) = no_such far
     faulty p (flawed u m (too_many o many)) = too_deep (deep s + 1) o (open_after ts p s u o (scan_run z (Ok start) ts s before) m) (omega arith)

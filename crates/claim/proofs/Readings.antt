@@ -39,7 +39,7 @@ none_wrong (in_parens q {ts = ts} d) =
 none_wrong a_constant = ((λ w. cc), tt)
 none_wrong a_name = ((λ w. cc), tt)
 
-text_right : {xs : List Tok} {t : Tree} → Says xs t → NoneWrong xs
+pub text_right : {xs : List Tok} {t : Tree} → Says xs t → NoneWrong xs
 text_right (a_text {ts = ts} p d) = all_append Right ts (tok p end ∷ []) (none_wrong d) ((λ w. cc), tt)
 
 module _ (z : Sizes) where
@@ -113,19 +113,24 @@ module _ (z : Sizes) where
     faultless t d k low (Deep q) h = (depth z xs d).0 low q h
 
   module _ (bs : List ℕ) where
-    -- and what is derived and has no fault is read
-    pub read_by : (t : Tree) → length bs ≤ 512 → Says (tokens 0 0 bs) t
-        → ((f : Fault) → Fails z (tokens 0 0 bs) f → ⊥) → Read bs z t
-    read_by t short d sound = record {
+    -- and what is derived, within names and depth, is read
+    pub read_within : (t : Tree) → length bs ≤ 512 → Says (tokens 0 0 bs) t
+        → ((p : ℕ) → Fails z (tokens 0 0 bs) (Name p) → ⊥)
+        → ((p : ℕ) → Fails z (tokens 0 0 bs) (Deep p) → ⊥) → Read bs z t
+    read_within t short d named low = record {
       short = short;
       spelling = tokens 0 0 bs;
       spelled = ((spelling bs).right (tokens 0 0 bs)).1 (refl, text_right d);
       derived = d;
       known =
           text_known d (all_splits Fine (tokens 0 0 bs) (λ us x vs e.
-          there (tokens 0 0 bs) (λ p. sound (Name p)) us x.place x.kind vs e));
-      shallow = (depth z (tokens 0 0 bs) d).1 (λ p. sound (Deep p));
+          there (tokens 0 0 bs) named us x.place x.kind vs e));
+      shallow = (depth z (tokens 0 0 bs) d).1 low;
     }
+
+    pub read_by : (t : Tree) → length bs ≤ 512 → Says (tokens 0 0 bs) t
+        → ((f : Fault) → Fails z (tokens 0 0 bs) f → ⊥) → Read bs z t
+    read_by t short d sound = read_within t short d (λ p. sound (Name p)) (λ p. sound (Deep p))
 
     module _ (t : Tree) (r : Read bs z t) where
       same : r.spelling ≡ tokens 0 0 bs

@@ -193,12 +193,12 @@ view b =
     (cases_eq b 40)) (cases_eq b 124)) (cases_eq b 38)) (cases_eq b 33)) (cases_eq b 32)
 
 -- a text is spelled to its end, or to where neither a space nor a token comes next
-record Split (p : ℕ) (bs : List ℕ) : Type 0 where
-  ts : List Tok
-  q : ℕ
-  cs : List ℕ
-  spells : Spells p bs ts q cs
-  ends : (cs ≡ []) ⊎ Stray cs
+pub record Split (p : ℕ) (bs : List ℕ) : Type 0 where
+  pub ts : List Tok
+  pub q : ℕ
+  pub cs : List ℕ
+  pub spells : Spells p bs ts q cs
+  pub ends : (cs ≡ []) ⊎ Stray cs
 
 abbrev Later : ℕ → Type 0
 Later k = (p : ℕ) (bs : List ℕ) → length bs ≤ k → Split p bs
@@ -236,7 +236,7 @@ split_byte k p b bs (a_letter s h) few later = split_letter k p (b ∷ []) bs s 
 split_byte k p b bs (a_stranger h) few later =
     record { ts = []; q = p; cs = b ∷ bs; spells = rest; ends = inr (strange h) }
 
-split : (k p : ℕ) (bs : List ℕ) → length bs ≤ k → Split p bs
+pub split : (k p : ℕ) (bs : List ℕ) → length bs ≤ k → Split p bs
 split k p [] few = record { ts = []; q = p; cs = []; spells = rest; ends = inl refl }
 split zero p (b ∷ bs) few = absurd (omega arith)
 split (suc k) p (b ∷ bs) few = split_byte k p b bs (view b) (omega arith) (λ q cs h. split k q cs h)
@@ -262,7 +262,7 @@ module _ (q : ℕ) where
   wrong_letter bs s none f =
       ⊎_elim (λ proper. absurd (none (digits bs) f.after f.is proper f.stops)) (λ h. h.1 s) (proper_or_not (digits bs) f.all)
 
-  stray_token : {cs : List ℕ} → Stray cs → (us : List Tok) × (tokens 0 q cs ≡ tok q wrong ∷ us)
+  pub stray_token : {cs : List ℕ} → Stray cs → (us : List Tok) × (tokens 0 q cs ≡ tok q wrong ∷ us)
   stray_token (strange {b = b} {bs = bs} h) =
       (_, ap (λ c. begun c q (digits bs) (tokens (more c (digits bs)) (q + 1) bs)) (wrong_byte b h))
   stray_token (no_number {l = l} {bs = bs} {s = s} h none) =

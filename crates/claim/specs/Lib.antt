@@ -4,6 +4,7 @@ pub mod Grammar
 pub mod Decimals
 pub mod Nesting
 pub mod Faults
+pub mod Refusals
 pub mod Exact
 pub mod Examples
 pub mod Result

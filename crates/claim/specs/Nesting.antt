@@ -1,7 +1,8 @@
 -- How many `!` and `(` are open at once: a `!` until its factor ends, a `(` until its `)`.
 use Rattle.std.specs.Prelude.{ℕ, ◌+◌, max, List}
 use Rattle.claim.specs.Tokens.{Tok}
-use Rattle.claim.specs.Grammar.{Level, Tree, Derives, one_term, more_terms, one_factor, more_factors, a_not, in_parens, a_constant, a_name, Says, a_text}
+use Rattle.claim.specs.Grammar.{Level, Tree, Derives, one_term, more_terms, one_factor, more_factors, a_not}
+use Rattle.claim.specs.Grammar.{in_parens, a_constant, a_name, Says, a_text}
 
 abbrev pub nesting : {l : Level} {ts : List Tok} {t : Tree} → Derives l ts t → ℕ
 nesting (one_term d) = nesting d

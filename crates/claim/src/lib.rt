@@ -32,7 +32,6 @@ pub fn read(text: &[u8], sizes: Sizes) -> Result<Codes, Fault>
     ensures answer { MatchResult result (λ c. Reads text.now sizes c) (λ f. Refused text.now sizes f) }
     ensures reads { (t : Tree) → Read text.now sizes t → IsOkAnd result (λ c. used c ≡ post t) }
     ensures exact { Exact text.now sizes }
-    ensures decimals { Decimals }
 {
     if text.len() > LONGEST {
         return Err(Fault::Claim(LONGEST));
@@ -44,6 +43,11 @@ pub fn read(text: &[u8], sizes: Sizes) -> Result<Codes, Fault>
         _ => Err(Fault::Claim(reader.ahead.place)),
     }
 }
+
+// Each number is spelled in one way, as its digits are read.
+pub fn numbers_are_spelled_once()
+    ensures { Decimals }
+{}
 
 // How short texts come out.
 pub fn examples()

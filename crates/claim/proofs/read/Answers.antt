@@ -2,7 +2,6 @@ use Rattle.std.proofs.Common.{refl, arith}
 use Rattle.std.proofs.lemmas.Result.{err_from_is_err_and}
 use Rattle.claim.specs.Faults.{too_long}
 use Rattle.claim.proofs.Exactly.{exact, answered}
-use Rattle.claim.proofs.Decimals.{decimals}
 use Rattle.claim.proofs.Whole.{refused, refused_after, written, reads}
 use Rattle.claim.proofs.read.Goals as goal
 
@@ -11,7 +10,6 @@ returns-then-text-gt-LONGEST c = record {
   answer = too_long (omega arith);
   reads = λ t r. absurd ((exact _ _).not_both t _ r (too_long (omega arith)));
   exact = exact _ _;
-  decimals = decimals;
 }
 
 pub returns-in_err-claim : goal.returns-in_err-claim
@@ -22,7 +20,6 @@ returns-in_err-claim c =
       answer = rw (p.1, p.2) fault;
       reads = λ t r. absurd ((exact _ _).not_both t _ r fault);
       exact = exact _ _;
-      decimals = decimals;
     }
 
 pub invariant_of-result : goal.invariant_of-result
@@ -36,7 +33,7 @@ invariant_of-result c =
 pub returns-in-End : goal.returns-in-End
 returns-in-End c =
     let codes = reads _ _ c.new-reader.ensures c.in_ok-claim.ensures.sofar _ refl c.in-End.is in
-    record { answer = codes; reads = λ t r. answered _ _ _ codes t r; exact = exact _ _; decimals = decimals }
+    record { answer = codes; reads = λ t r. answered _ _ _ codes t r; exact = exact _ _ }
 
 pub returns-in_default : goal.returns-in_default
 returns-in_default c =
@@ -45,5 +42,4 @@ returns-in_default c =
       answer = fault;
       reads = λ t r. absurd ((exact _ _).not_both t _ r fault);
       exact = exact _ _;
-      decimals = decimals;
     }
