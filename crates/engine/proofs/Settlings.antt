@@ -1,14 +1,15 @@
 -- Advances up to a settled verdict.
-use Rattle.std.proofs.Common.{◌≡◌, ℕ, suc, ◌<◌, ◌≤◌, ◌^◌, List, ◌∷◌, ◌++◌, Option, None, Some, MatchOption, MatchResult, Result, sym, refl, ap, ◌∙◌, subst, arith, pow_mono}
+use Rattle.std.proofs.Common.{◌≡◌, ℕ, suc, ◌<◌, ◌≤◌, ◌^◌, List, [], ◌∷◌, ◌++◌, Option, None, Some, MatchOption, MatchResult, Result, Ok, Err, sym, refl, ap, ◌∙◌, subst, arith, pow_mono}
 use Rattle.store.specs.Meaning.{Shown}
 use Rattle.uses.specs.declared.fault.Fault.{Fault}
+use Rattle.uses.specs.declared.fault.Fault.TheVariants.{Empty}
 use Rattle.runs.specs.Models.{Model, Valid, system}
 use Rattle.runs.specs.Search.{unsafe, verdict}
 use Rattle.runs.proofs.Verdicts.{verdicts}
 use Rattle.uses.specs.declared.verdict.Verdict.{Verdict}
 use Rattle.uses.specs.declared.verdict.Verdict.TheVariants as answer
 use Rattle.uses.specs.Calls.{State, empty, loaded, Call, advance, Stand, stand, Event, event}
-use Rattle.uses.specs.Uses.{Step, advance_empty, advance_settled, advance_full, advances, Use, went_on}
+use Rattle.uses.specs.Uses.{Step, advance_empty, advance_settled, advance_full, advances, Use, begun, went_on}
 use Rattle.uses.proofs.Told.{never, tell_unsafe}
 use Rattle.runs.proofs.Models.{closed}
 use Rattle.uses.proofs.Uses.{come}
@@ -16,8 +17,8 @@ use Rattle.arrayvec.specs.ArrayVec.{array_vec_len}
 use Rattle.engine.specs.declared.search.Search.{Search}
 use Rattle.engine.specs.declared.settled.Settled.{Settled}
 use Rattle.engine.specs.Keeping.{World, Sets, Keeps, Next}
-use Rattle.engine.specs.Settled.{Advances, more, Undecided, Decided, Stuck}
-use Rattle.engine.specs.Settling.{SettledOn}
+use Rattle.engine.specs.Settled.{Advances, none, more, Undecided, Decided, Stuck}
+use Rattle.engine.specs.Settling.{Settles, SettledOn}
 use Rattle.engine.proofs.Handing.{depth_is}
 
 -- the latest event of a use was a step
@@ -31,6 +32,28 @@ is_unsafe k n d e o empty s h = never (cc)
 is_unsafe k n d e o (loaded m j) s h =
     let p : j ≡ n = sym h.count ∙ sym e in
     (m, ap (loaded m) p, subst (λ i. verdict (system m) i ≡ unsafe i) p (depth_is (system m) j d (tell_unsafe (verdict (system m) j) d (sym h.verdict ∙ o))))
+
+-- of an empty session no advance is accepted
+still_empty : {s t : Shown} {state : State} {made : List Event} → Advances (stand empty s) made (stand state t) → state ≡ empty
+still_empty a = by a refl
+  where
+    by : {from now : Stand} {made : List Event} → Advances from made now → from.state ≡ empty → now.state ≡ empty
+    by none e = e
+    by (more a (advances o r)) e = never (let p = by a e in cc)
+
+refused_by_empty : {state state' : State} {s t : Shown} {e : Fault} → Step (stand state s) (advance (Err e)) (stand state' t) → state ≡ empty → e ≡ Empty
+refused_by_empty advance_empty p = refl
+refused_by_empty (advance_settled n) p = never (cc)
+refused_by_empty (advance_full o q) p = never (cc)
+
+-- so it settles on nothing
+pub settles_empty : (w v : World) (r : Result Settled Fault) → Settles w r v → Keeps empty w → r ≡ Err Empty
+settles_empty w v r f k = by r (f w.store [] empty begun k)
+  where
+    by : (r : Result Settled Fault) → MatchResult r (Decided w.store [] (stand empty w.store) v) (Stuck w.store [] (stand empty w.store) v)
+        → r ≡ Err Empty
+    by (Ok a) d = never (let p = still_empty d.advanced in cc)
+    by (Err e) d = ap Err (refused_by_empty (last_step d.led) (still_empty d.advanced))
 
 -- what is not settled is open
 pub unsettled : (k : Option Search) (r : Option Settled) → ((a : Settled) → r ≡ Some a → ⊥) → SettledOn k r → SettledOn k None

@@ -1,6 +1,8 @@
 // Advances until the verdict is settled.
-ghost use Rattle.std.specs.Prelude.{Some};
-ghost use Rattle.engine.specs.Keeping.{world, searching};
+ghost use Rattle.std.specs.Prelude.{◌≡◌, Some, Err};
+ghost use Rattle.uses.specs.declared.fault.Fault.TheVariants.{Empty};
+ghost use Rattle.uses.specs.Calls.{empty};
+ghost use Rattle.engine.specs.Keeping.{world, Keeps};
 ghost use Rattle.engine.specs.Settling.{Settles, SettledOn};
 
 use super::search::{MOST_STEPS, Search};
@@ -37,7 +39,8 @@ impl<S: Store> Session<S> {
     /// has then accepted. A settled session is left as it is. A session that is empty, or whose store has no room,
     /// is refused as its advance is, and keeps what it came to.
     pub fn settle(&mut self) -> Result<Settled, Fault>
-        ensures { Settles (world S.Store.shows self.old) result (world S.Store.shows self.new) }
+        ensures settles { Settles (world S.Store.shows self.old) result (world S.Store.shows self.new) }
+        ensures empty { Keeps empty (world S.Store.shows self.old) → result ≡ Err Empty }
     {
         // One turn for each set that there can be.
         for _ in 0..MOST_STEPS {

@@ -36,7 +36,7 @@ returns-in_err-settled g c =
     let b = loaded_by w u c.requires c.in_ok-load.ensures.next in
     refuses w.store c.args.job.now c.from_residual-in_err-settled.result (Call c.in_err-settled.field-0.0) v.store c.from_residual-in_err-settled.ensures.1
     (not_settled w.store c.args.job.now (parts c.in_ok-source.source) (sym c.in_ok-source.ensures.answer) b.model b.describes c.in_err-settled.field-0.0 v.store
-    (settled_by w.store b.model (Err c.in_err-settled.field-0.0) u v b.come c.in_err-settled.ensures))
+    (settled_by w.store b.model (Err c.in_err-settled.field-0.0) u v b.come c.in_err-settled.ensures.settles))
 
 pub conclude-requires : goal.conclude-requires
 conclude-requires g c =
@@ -53,7 +53,7 @@ module _ (g : _) (c : In_ok-settled g) where
   load = loaded_by start (world g.S.Store.shows c.load.new.self) c.requires c.in_ok-load.ensures.next
 
   ended : Ended start.store load.model c.in_ok-settled.settled (world g.S.Store.shows c.settle.new.self)
-  ended = settled_by start.store load.model (Ok c.in_ok-settled.settled) (world g.S.Store.shows c.load.new.self) (world g.S.Store.shows c.settle.new.self) load.come c.in_ok-settled.ensures
+  ended = settled_by start.store load.model (Ok c.in_ok-settled.settled) (world g.S.Store.shows c.load.new.self) (world g.S.Store.shows c.settle.new.self) load.come c.in_ok-settled.ensures.settles
 
   sizes : sizes_at c.in_ok-source.source.circuit.now ≡ sizes_of load.model.circuit
   sizes = sizes_are start.store.vars c.in_ok-source.source.circuit.now load.model.circuit load.describes.circuit
