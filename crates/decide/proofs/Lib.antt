@@ -2,3 +2,4 @@ mod Sessions
 mod Right
 mod Traces
 mod Single
+mod Room

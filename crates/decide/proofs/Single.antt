@@ -1,5 +1,7 @@
--- A job has one right report, by what the store shows at the start and at the end; and what a right report says of runs.
-use Rattle.std.proofs.Common.{◌≡◌, ℕ, zero, suc, ◌<◌, ◌≤◌, List, [], ◌++◌, length, Ok, Err, Result, sym, refl, ap, ◌∙◌, subst, ⊎_elim, eq-or-lt_of_le, arith}
+-- A job has one right report, by what the store shows at the start and, where there was no room, at the end;
+-- and what a right report says of runs.
+use Rattle.std.proofs.Common.{◌≡◌, ℕ, zero, suc, ◌<◌, ◌≤◌, false, ◌⊎◌, List, [], ◌++◌, length}
+use Rattle.std.proofs.Common.{Ok, Err, Result, sym, refl, ap, ap₂, ◌∙◌, subst, inl, inr, ⊎_elim, eq-or-lt_of_le, arith}
 use mathlib.Core.Path.{to_path_p}
 use native.Mathlib.Bridge.{le_prop}
 use Rattle.std.proofs.lemmas.Bool.{cases_lt}
@@ -22,6 +24,7 @@ use Rattle.runs.specs.Verdicts.{Safe, Unsafe}
 use Rattle.runs.proofs.Traces as runs
 use Rattle.runs.proofs.Verdicts.{verdicts}
 use Rattle.uses.specs.Uses.{room}
+use Rattle.uses.proofs.Determined.{left_full, right_full}
 use Rattle.runs.proofs.Models.{closed}
 use Rattle.job.specs.Frames.{Parts, frame}
 use Rattle.job.specs.declared.fault.Fault.{Fault as Unframed}
@@ -32,7 +35,8 @@ use Rattle.decide.specs.declared.report.Report.TheVariants as report
 use Rattle.decide.specs.declared.trace.Trace.{Trace}
 use Rattle.decide.specs.Traces.{depth_of, none, state_at, input_at}
 use Rattle.decide.specs.Outcomes.{Job, Searched, begun, advanced, insides, Traced}
-use Rattle.decide.specs.Reports.{Reports, unframed, unfit, load_full, advance_full, found_safe, found_unsafe, Only, Accepted, Broken}
+use Rattle.decide.specs.Reports.{Reports, unframed, unfit, load_full, advance_full, found_safe, found_unsafe}
+use Rattle.decide.specs.Reports.{is_full, Only, Accepted, Broken}
 use Rattle.decide.specs.Searches.{Conclusion, is_safe, is_unsafe}
 
 module _ {m : Model} {s : Shown} where
@@ -99,7 +103,7 @@ calls_more m i (suc j) l = ⊎_elim
     down : i < suc j → i ≤ j
     down h = omega arith
 
-all_made : {m : Model} {s : Shown} {j : ℕ} {t : Shown} → Searched m s j t → Runs s (calls m j) t
+pub all_made : {m : Model} {s : Shown} {j : ℕ} {t : Shown} → Searched m s j t → Runs s (calls m j) t
 all_made (begun r) = r
 all_made (advanced f o r) = runs_join (all_made f) r
 
@@ -171,15 +175,28 @@ module _ (s : Shown) (bs : List ℕ) where
   comes (found_safe w f o) = framed w.framed (right w.describes) (settles f (is_safe o))
   comes (found_unsafe w f o h) = framed w.framed (right w.describes) (settles f (is_unsafe refl o h))
 
-  same_report : {m : Model} {t : Shown} {r r' : Report} → Way m t r → Way m t r' → r' ≡ r
-  same_report {m = m} {t = t} (halts a) (halts b) = ap (λ y. report.Refused (Call (room y t))) (one_halt m s b a)
-  same_report (halts a) (settles g h) = absurd (not_halted _ s g (not_open h) a)
-  same_report (settles f h) (halts b) = absurd (not_halted _ s f (not_open h) b)
-  same_report (settles f h) (settles g k) = one_conclusion f g h k
+  -- the store shows the same at both ends, or neither report is a refusal for room
+  abbrev Tied : Shown → Shown → Report → Report → Type 0
+  Tied t u r r' = (t ≡ u) ⊎ ((is_full r ≡ false) × (is_full r' ≡ false))
 
-  one_follows : (x : Result Model Misdescription) (t : Shown) {r r' : Report} → Follows x t r → Follows x t r' → r' ≡ r
-  one_follows (Ok m) t a b = same_report a b
-  one_follows (Err e) t a b = b ∙ sym a
+  same_report : {m : Model} {t u : Shown} {r r' : Report} → Way m t r → Way m u r' → Tied t u r r' → r' ≡ r
+  same_report {m = m} {t = t} {u = u} (halts {y = x} a) (halts {y = y} b) d =
+      let e = left_full d in
+      ap₂ (λ y t. report.Refused (Call (room y t))) (one_halt m s (subst (λ t. Halted m s t y) (sym e) b) a) (sym e)
+  same_report {m = m} (halts {y = y} a) (settles g h) d =
+      absurd (not_halted m s g (not_open h) (subst (λ t. Halted m s t y) (left_full d) a))
+  same_report {m = m} (settles f h) (halts {y = y} b) d =
+      absurd (not_halted m s f (not_open h) (subst (λ t. Halted m s t y) (sym (right_full d)) b))
+  same_report (settles f h) (settles g k) d = one_conclusion f g h k
+
+  one_follows :
+      (x : Result Model Misdescription) (t u : Shown) {r r' : Report}
+      → Follows x t r
+      → Follows x u r'
+      → Tied t u r r'
+      → r' ≡ r
+  one_follows (Ok m) t u a b d = same_report a b d
+  one_follows (Err e) t u a b d = b ∙ sym a
 
   one_fault : {a b : Unframed} → frame bs ≡ Err a → frame bs ≡ Err b → b ≡ a
   one_fault e e' = cc
@@ -187,17 +204,20 @@ module _ (s : Shown) (bs : List ℕ) where
   one_parts : {p p' : Parts} → frame bs ≡ Ok p → frame bs ≡ Ok p' → p ≡ p'
   one_parts e e' = cc
 
-  one : {t : Shown} {r r' : Report} → Comes t r → Comes t r' → r' ≡ r
-  one (no_frame e h) (no_frame e' h') = h' ∙ ap (λ i. report.Refused (Frame i)) (one_fault e e') ∙ sym h
-  one (no_frame e h) (framed f k l) = never (cc)
-  one (framed f k l) (no_frame e h) = never (cc)
-  one {t = t} {r = r} (framed {x = x} f k l) (framed {x = y} f' k' l') =
+  one : {t u : Shown} {r r' : Report} → Comes t r → Comes u r' → Tied t u r r' → r' ≡ r
+  one (no_frame e h) (no_frame e' h') d = h' ∙ ap (λ i. report.Refused (Frame i)) (one_fault e e') ∙ sym h
+  one (no_frame e h) (framed f k l) d = never (cc)
+  one (framed f k l) (no_frame e h) d = never (cc)
+  one {t = t} {u = u} {r = r} (framed {x = x} f k l) (framed {x = y} f' k' l') d =
       let p = one_parts f f' in
       let e : x ≡ y = one_check (subst (λ (p : Parts). Checked s.vars p.circuit p.assumption p.property x) p k) k' in
-      one_follows y t (subst (λ x. Follows x t r) e l) l'
+      one_follows y t u (subst (λ x. Follows x t r) e l) l' d
 
   pub only : (r : Report) (t : Shown) → Reports s bs r t → Only s bs r t
-  only r t a other b = one (comes a) (comes b)
+  only r t a = record {
+    same_end = λ other b. one (comes a) (comes b) (inl refl);
+    any_end = λ other u b n n'. one (comes a) (comes b) (inr (n, n'));
+  }
 
   refused : {e : Fault} → Accepted s bs (report.Refused e) × Broken s bs (report.Refused e)
   refused = (λ z i c is. never (cc), λ z x is. never (cc))

@@ -1,4 +1,4 @@
--- What the parts of the search promise one another: w is the session before, and v after.
+-- What the parts of the search promise one another.
 use Rattle.std.specs.Prelude.{◌≡◌, ℕ, List, Ok, Err, Result, MatchResult}
 use Rattle.store.specs.Meaning.{Shown}
 use Rattle.circuit.specs.Files.{sizes_at}

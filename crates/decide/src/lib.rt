@@ -1,7 +1,8 @@
 // From the bytes of a job to the report on it, by a search over any store.
 #![tactic(auto)]
 
-ghost use Rattle.decide.specs.Reports.{Reports, Only, Accepted, Broken};
+ghost use Rattle.store.specs.Meaning.{Grown};
+ghost use Rattle.decide.specs.Reports.{Reports, Only, Full, Accepted, Broken};
 ghost use Rattle.decide.specs.Searches.{reported};
 ghost use Rattle.engine.specs.Keeping.{world, Keeps};
 ghost use Rattle.uses.specs.Calls.{empty};
@@ -24,6 +25,8 @@ use store::Store;
 pub fn report_on<S: Store>(job: &[u8], store: S) -> (Report, S)
     ensures right { Reports (S.Store.shows store) job.now result.0 (S.Store.shows result.1) }
     ensures only { Only (S.Store.shows store) job.now result.0 (S.Store.shows result.1) }
+    ensures full { Full (S.Store.shows store) job.now result.0 (S.Store.shows result.1) }
+    ensures grown { Grown (S.Store.shows store) (S.Store.shows result.1) }
     ensures accepted { Accepted (S.Store.shows store) job.now result.0 }
     ensures broken { Broken (S.Store.shows store) job.now result.0 }
 {

@@ -6,6 +6,7 @@ use Rattle.store.specs.Meaning.{Shown}
 use Rattle.uses.specs.Calls.{empty, Call, stand, event}
 use Rattle.uses.specs.Uses.{Use}
 use Rattle.uses.proofs.Promises.{promised}
+use Rattle.uses.proofs.Uses.{use_grown}
 use Rattle.engine.specs.Keeping.{World, Keeps}
 use Rattle.requests.specs.declared.exchange.Exchange.{Exchange}
 use Rattle.requests.specs.Calling.{IsCall, AreCalls, none, more}
@@ -81,4 +82,5 @@ served s w xs ys p =
       led = p.led;
       calls_are = p.calls_are;
       promise = promised s p.history (stand p.state w.store) p.led;
+      grown = use_grown p.led;
     }

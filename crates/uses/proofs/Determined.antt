@@ -38,10 +38,10 @@ abbrev Tied : Call → Call → Stand → Stand → Type 0
 Tied c c' v v' = (v.store ≡ v'.store) ⊎ ((is_full c ≡ false) × (is_full c' ≡ false))
 
 -- one of the two was
-left_full : {E : Type 0} {full : Bool} → E ⊎ ((true ≡ false) × (full ≡ false)) → E
+pub left_full : {E : Type 0} {full : Bool} → E ⊎ ((true ≡ false) × (full ≡ false)) → E
 left_full t = ⊎_elim (λ e. e) (λ n. absurd (both_ways true n.0 refl)) t
 
-right_full : {E : Type 0} {full : Bool} → E ⊎ ((full ≡ false) × (true ≡ false)) → E
+pub right_full : {E : Type 0} {full : Bool} → E ⊎ ((full ≡ false) × (true ≡ false)) → E
 right_full t = ⊎_elim (λ e. e) (λ n. absurd (both_ways true n.1 refl)) t
 
 module _ {width : ℕ} {x a p : List ℕ} where

@@ -4,5 +4,5 @@ pub mod Uses
 mod Unchanged
 mod Insides
 pub mod Promises
-mod Determined
+pub mod Determined
 mod Possible

@@ -36,7 +36,7 @@ use Rattle.runs.proofs.Models.{closed}
 use Rattle.uses.proofs.Insides.{inside_tells}
 use Rattle.uses.proofs.Uses.{step_grown, Come, come}
 
-short_of :
+pub short_of :
     {s t : Shown} {l : List Item} {y : Item} (bound : ℕ)
     → Stops s l y t
     → length l ≤ bound
@@ -55,7 +55,7 @@ short_of {s = s} {y = y} bound q h = record {
 all_made : {s t : Shown} {l : List Item} (bound : ℕ) → Runs s l t → length l ≤ bound → AllMade s t l bound
 all_made bound r h = record { runs = r; held = runs_held r; few = h }
 
-load_calls :
+pub load_calls :
     {width : ℕ} {x a p : List ℕ} {m : Model}
     → Checked width x a p (Ok m)
     → length (load_list m) ≤ load_bound m (length a) (length p)

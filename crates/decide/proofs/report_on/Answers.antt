@@ -1,6 +1,7 @@
 use Rattle.std.proofs.Common.{rules}
 use Rattle.decide.specs.Reports.{Reports}
 use Rattle.decide.proofs.Single.{only, said}
+use Rattle.decide.proofs.Room.{full, grown}
 use Rattle.decide.proofs.report_on.Goals as goal
 use Rattle.decide.proofs.report_on.Goals.{After-into_store}
 
@@ -12,4 +13,11 @@ returns g c =
     let s = g.S.Store.shows c.args.store in
     let a = is_right g (goal.at.returns g c).After-into_store in
     let b = said s c.args.job.now a in
-    record { right = a; only = only s c.args.job.now _ _ a; accepted = b.0; broken = b.1 }
+    record {
+      right = a;
+      only = only s c.args.job.now _ _ a;
+      full = full s c.args.job.now _ _ a;
+      grown = grown s c.args.job.now a;
+      accepted = b.0;
+      broken = b.1;
+    }
