@@ -1,4 +1,5 @@
 pub mod Faults
 pub mod Notices
 pub mod Checks
+pub mod Stated
 pub mod Results

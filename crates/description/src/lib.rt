@@ -27,7 +27,7 @@ pub fn describe(source: Source, width: u8) -> Result<Described, Fault>
     let property = claim::read(source.property, sizes).map_err(Fault::Property)?;
     Ok(Described {
         circuit,
-        assumption,
-        property,
+        assumed: assumption,
+        promised: property,
     })
 }
