@@ -8,7 +8,7 @@ use Rattle.circuit.specs.Netlists.{Netlist}
 use Rattle.circuit.specs.Reading.{netlist}
 use Rattle.claim.specs.Result.{used}
 use Rattle.description.specs.Checks.{Checked, right}
-use Rattle.description.specs.Results.{Understood}
+use Rattle.description.specs.Results.{circuit_of, assumption_of, property_of, Understood}
 use Rattle.description.specs.declared.described.Described.{Described}
 use Rattle.description.specs.declared.fault.Fault.{Fault as Misdescription}
 use Rattle.making.specs.declared.fault.Fault.{Fault as Unmade}
@@ -56,15 +56,14 @@ module _ (x a p : List ℕ) (w : World) where
       checked : Checked w.store.vars x a p (Ok model)
       checked = subst (λ n. Checked n x a p (Ok model)) told_of.variables (right known.describes)
 
-      ran : (r : Result Built Unmade) → Builds t (netlist d.circuit) (used d.assumption) (used d.property) r v
+      ran : (r : Result Built Unmade) → Builds t (netlist (circuit_of d)) (used (assumption_of d)) (used (property_of d)) r v
           → Ends located w.store v (load_list model) (Loaded v model (claim_fn model model.assumption) (claim_fn model model.property)) r
       ran r b =
-          let at_store = subst (λ (s : Shown). Builds s (netlist d.circuit) (used d.assumption) (used d.property) r v) same b in
-          let at_model = subst (λ (c : Netlist). Builds w.store c (used d.assumption) (used d.property) r v) known.circuit at_store in
-          at_model model.assumption model.property known.assumed known.promised valid.0.assumption valid.0.property told_of.lawful
-          (omega (arith, valid.1, told_of.variables))
+          let at_store = subst (λ (s : Shown). Builds s (netlist (circuit_of d)) (used (assumption_of d)) (used (property_of d)) r v) same b in
+          let at_model = subst (λ (c : Netlist). Builds w.store c (used (assumption_of d)) (used (property_of d)) r v) known.circuit at_store in
+          at_model.wide (omega (arith, valid.1, told_of.variables)) model.assumption model.property known.assumed known.promised
 
-      pub when_full : (i : Unmade) → Builds t (netlist d.circuit) (used d.assumption) (used d.property) (Err i) v → Next w (load x a p (Err (fault.Making i))) (record { store = v; search = w.search })
+      pub when_full : (i : Unmade) → Builds t (netlist (circuit_of d)) (used (assumption_of d)) (used (property_of d)) (Err i) v → Next w (load x a p (Err (fault.Making i))) (record { store = v; search = w.search })
       when_full i b = from_none w _ (record { store = v; search = w.search }) e (by (ran (Err i) b))
         where
           by : Ends located w.store v (load_list model) (Loaded v model (claim_fn model model.assumption) (claim_fn model model.property)) (Err i)
@@ -88,7 +87,7 @@ module _ (x a p : List ℕ) (w : World) where
           met : Means v b.met (both (set_fn model 0) (init_fn model))
           met = record { held = q.met.held; same = λ u l. q.met.same u l ∙ ap (λ y. y && init_fn model u) ((functions_exact model valid.0).stepped.first u) }
 
-      pub when_done : (b : Built) (k : Search) → BeginsFrom b k → Builds t (netlist d.circuit) (used d.assumption) (used d.property) (Ok b) v
+      pub when_done : (b : Built) (k : Search) → BeginsFrom b k → Builds t (netlist (circuit_of d)) (used (assumption_of d)) (used (property_of d)) (Ok b) v
           → Next w (load x a p (Ok k.last.verdict)) (searching v k)
       when_done b k z f = from_none w _ _ e (by (ran (Ok b) f))
         where

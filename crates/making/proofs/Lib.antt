@@ -3,6 +3,7 @@ pub mod Loops
 pub mod Placing
 pub mod Literals
 pub mod Circuits
+pub mod Naming
 pub mod Gating
 pub mod Varying
 pub mod Stacking
@@ -11,5 +12,6 @@ pub mod Telling
 pub mod Backs
 pub mod Starting
 pub mod Joining
+pub mod Building
 pub mod Bounds
 pub mod Lengths

@@ -1,5 +1,5 @@
 -- Steps of a list of making calls.
-use Rattle.std.proofs.Common.{◌≡◌, ℕ, ◌+◌, ◌^◌, ◌<◌, ◌≤◌, Bool, true, false, not, ◌&&◌, ◌||◌, ltb, List, [], ◌∷◌, ◌++◌, IsErrAnd, Ok, Err, Result, sym, refl, ap, ◌∙◌, subst, lt-ltb}
+use Rattle.std.proofs.Common.{◌≡◌, ℕ, ◌+◌, ◌^◌, ◌<◌, ◌≤◌, Bool, true, false, not, ◌&&◌, ◌||◌, ltb, List, [], ◌∷◌, ◌++◌, IsErrAnd, Ok, Err, Result, sym, refl, ap, ◌∙◌, subst, lt-ltb, arith}
 use Rattle.std.proofs.lemmas.Bool.{and_from}
 use Rattle.std.proofs.lemmas.Result.{err_from_is_err_and}
 use Rattle.store.specs.declared.refusal.Refusal.{Refusal}
@@ -11,7 +11,8 @@ use Rattle.store.specs.Meaning.{Shown, Lawful, Grown, Made, free}
 use Rattle.store.specs.Calls.{Answers, Reply}
 use Rattle.runs.specs.Functions.{negated, both, either}
 use Rattle.making.specs.Making.{Item, Runs, ended, went, Stops, here, later, Means}
-use Rattle.making.specs.Ends.{Ends, made, stuck, plain}
+use Rattle.making.specs.Ends.{Ends, made, stuck, plain, Lacks, lacked, filled}
+use Rattle.making.specs.Pieces.{variables_list}
 
 -- a call whose result is f is one whose result is g
 pub answers_like : (s t : Shown) (f g : Fn) (r : Result ℕ Refusal) → Lawful s → Same s.vars f g → Answers s t f r → Answers s t g r
@@ -96,6 +97,11 @@ pub runs_grown : {s t : Shown} {l : List Item} → Runs s l t → Grown s t
 runs_grown ended = grown_none
 runs_grown (went a l m w r) = grown_more m.grown (runs_grown r)
 
+-- a store that is lawful afterwards was so before
+pub runs_lawful : {s t : Shown} {l : List Item} → Runs s l t → Lawful t → Lawful s
+runs_lawful ended h = h
+runs_lawful (went a l m w r) h = l
+
 pub stops_grown : {s t : Shown} {l : List Item} {x : Item} → Stops s l x t → Grown s t
 stops_grown (here l p) = grown_none
 stops_grown (later a l m r) = grown_more m.grown (stops_grown r)
@@ -157,6 +163,23 @@ ends_refused (stuck y q w) = stuck y q w
 pub runs_of : {X E : Type 0} {room : Item → ℕ → E} {P : X → Type 0} {s t : Shown} {l : List Item} {x : X} → Ends room s t l P (Ok x) → Runs s l t × P x
 runs_of (made q k) = (q, k)
 
+lacks_err : {X E : Type 0} {room : Item → ℕ → E} {v : E} {s t : Shown} {r : Result X E} → Lacks room v s t r → (e : E) × (r ≡ Err e)
+lacks_err (lacked {e = e} q k) = (e, refl)
+lacks_err (filled {e = e} y q k) = (e, refl)
+
+-- no variable was wanting where a number was answered
+pub lacks_none : {X E : Type 0} {room : Item → ℕ → E} {v : E} {s t : Shown} {x : X} {Y : Type 0} → Lacks room v s t (Ok x) → Y
+lacks_none q = let k = (lacks_err q).1 in let n : ◌≡◌ {A = ℕ} 0 1 = cc in absurd (omega arith)
+
+-- the same refusal, of another answer
+pub lacks_other : {X Y E : Type 0} {room : Item → ℕ → E} {v : E} {s t : Shown} {e : E} → Lacks {X = X} room v s t (Err e) → Lacks {X = Y} room v s t (Err e)
+lacks_other (lacked q k) = lacked q k
+lacks_other (filled y q k) = filled y q k
+
+pub lacks_room : {X Y E : Type 0} {room : Item → ℕ → E} {v : E} {P : X → Type 0} {s t : Shown} {e : E}
+    → Ends room s t (variables_list s.vars) P (Err e) → Lacks {X = Y} room v s t (Err e)
+lacks_room (stuck y q w) = filled y q w
+
 -- another thing is said of the answer
 pub ends_with : {X E : Type 0} {room : Item → ℕ → E} {P Q : X → Type 0} {s t : Shown} {l : List Item} {r : Result X E}
     → ((x : X) → Runs s l t → P x → Q x) → Ends room s t l P r → Ends room s t l Q r
@@ -168,8 +191,11 @@ pub ends_as : {X E : Type 0} {room : Item → ℕ → E} {P : X → Type 0} {s t
 ends_as {room = room} {P = P} {s = s} {t = t} {r = r} e q = subst (λ l. Ends room s t l P r) e q
 
 -- the exit of a `?`
+pub exits : {X E : Type 0} (P : Result X E → Type 0) (r : Result X E) (e : E) → IsErrAnd r (λ y. y ≡ e) → P (Err e) → P r
+exits P r e b q =
+    let p = err_from_is_err_and r b in
+    subst P (sym p.1) (subst (λ y. P (Err y)) (sym p.2) q)
+
 pub broke : {X E : Type 0} {room : Item → ℕ → E} {P : X → Type 0} {s t : Shown} {l : List Item} (r : Result X E) (e : E) → IsErrAnd r (λ y. y ≡ e)
     → Ends room s t l P (Err e) → Ends room s t l P r
-broke {room = room} {P = P} {s = s} {t = t} {l = l} r e b q =
-    let p = err_from_is_err_and r b in
-    subst (Ends room s t l P) (sym p.1) (subst (λ y. Ends room s t l P (Err y)) (sym p.2) q)
+broke {room = room} {P = P} {s = s} {t = t} {l = l} r e = exits (Ends room s t l P) r e

@@ -14,6 +14,7 @@ use Rattle.claim.specs.declared.code.Code.{Code}
 use Rattle.claim.specs.Grammar.{Tree, post, Known}
 use Rattle.description.specs.declared.part.Part.{Part}
 use Rattle.making.specs.declared.fault.Fault.{Fault}
+use Rattle.making.specs.declared.fault.Fault.TheVariants as fault
 use Rattle.making.specs.declared.lines.Lines.{Lines}
 use Rattle.making.specs.declared.parts.Polarities.{Polarities}
 use Rattle.making.specs.declared.parts.Parts.{Parts}
@@ -25,7 +26,7 @@ use Rattle.making.specs.Models.{model, width}
 use Rattle.making.specs.Making.{at, Means, Numbered, Polar, unpaired, Paired}
 use Rattle.making.specs.Pieces.{composed_list, composed_all_list, halves_list, quantified_list, negations_list, variables_list, literal_list, gate_list, gates_list, operators_list}
 use Rattle.making.specs.Loads.{first_list, start_list, load_list, back_list, registers_of, Kept, Loaded}
-use Rattle.making.specs.Ends.{Ends, plain, located, Gives}
+use Rattle.making.specs.Ends.{Ends, plain, located, Gives, ByWidth}
 use Rattle.making.specs.Stacks.{Standing, Acts}
 
 -- number a under either value of variable x
@@ -65,8 +66,10 @@ GatesOne s numbers g r t = (p : Part) (l : ℕ) (f : ℕ → Fn) → Means s (sl
 
 -- line 0 is there; then the registers, the inputs and the copies are, too
 abbrev pub MakesVariables : Shown → Model → List ℕ → Result (ArrayVec ℕ) Refusal → List ℕ → Shown → Type 0
-MakesVariables s m before r after t = width m ≤ s.vars → Numbered s before (line_fn m) 1
-    → Ends plain s t (variables_list (width m)) (λ copies. Numbered t after (line_fn m) (gate_line m.circuit 0) × Numbered t copies.items (λ i. bit (copy i)) m.circuit.registers) r
+MakesVariables s m before r after t = ByWidth plain Variable s t (width m)
+    (Numbered s before (line_fn m) 1
+    → Ends plain s t (variables_list (width m)) (λ copies. Numbered t after (line_fn m) (gate_line m.circuit 0) × Numbered t copies.items (λ i. bit (copy i)) m.circuit.registers) r)
+    r
 
 -- the numbers of the lines before the gates are there; those of the gates are then, too
 abbrev pub GatesAll : Shown → Model → List ℕ → Result (Unit {0}) Fault → List ℕ → Shown → Type 0
@@ -75,9 +78,10 @@ GatesAll s m before r after t = Numbered s before (line_fn m) (gate_line m.circu
 
 -- all lines and the copies
 abbrev pub MakesLines : Shown → Model → Result Lines Fault → Shown → Type 0
-MakesLines s m r t = Lawful s → width m ≤ s.vars
-    → Ends located s t (variables_list (width m) ++ gates_list m (length m.circuit.gates))
-    (λ made. Lawful t × Numbered t made.numbers.items (line_fn m) (lines m.circuit) × Numbered t made.copies.items (λ i. bit (copy i)) m.circuit.registers) r
+MakesLines s m r t = ByWidth located fault.Variable s t (width m)
+    (Ends located s t (variables_list (width m) ++ gates_list m (length m.circuit.gates))
+    (λ made. Lawful t × Numbered t made.numbers.items (line_fn m) (lines m.circuit) × Numbered t made.copies.items (λ i. bit (copy i)) m.circuit.registers) r)
+    r
 
 -- one act on a stack, whose result is not pushed yet
 abbrev pub ActsOn : Shown → Model → Act → List ℕ → List ℕ → Result ℕ Refusal → List ℕ → Shown → Type 0
@@ -100,8 +104,10 @@ MakesStart s m numbers copies a b r t = (p : Part) (l : ℕ) (h q : Fn) → widt
 
 -- all of a load: the claims are those that the codes say
 abbrev pub Builds : Shown → Netlist → List Code → List Code → Result Built Fault → Shown → Type 0
-Builds s c hs qs r t = (h q : Tree) → hs ≡ post h → qs ≡ post q → Known (sizes c) h → Known (sizes c) q → Lawful s → width (model c h q) ≤ s.vars
-    → Ends located s t (load_list (model c h q)) (Loaded t (model c h q) (claim_fn (model c h q) h) (claim_fn (model c h q) q)) r
+Builds s c hs qs r t = ByWidth located fault.Variable s t (2 * c.registers + c.inputs)
+    ((h q : Tree) → hs ≡ post h → qs ≡ post q
+    → Ends located s t (load_list (model c h q)) (Loaded t (model c h q) (claim_fn (model c h q) h) (claim_fn (model c h q) q)) r)
+    r
 
 -- all of an advance but the call with Init
 abbrev pub StepsBack : Shown → ℕ → Parts → Result ℕ Refusal → Shown → Type 0

@@ -2,6 +2,7 @@
 ghost use Rattle.std.specs.Prelude.{◌≡◌, IfOk};
 ghost use Rattle.circuit.specs.Reading.{netlist};
 ghost use Rattle.claim.specs.Result.{used};
+ghost use Rattle.description.specs.Results.{circuit_of, assumption_of, property_of};
 ghost use Rattle.making.specs.Models.{alone};
 ghost use Rattle.making.specs.Promises.{MakesLines, Builds};
 
@@ -35,13 +36,14 @@ fn make_lines<'a, S: Store>(store: &mut S, circuit: &'a Circuit) -> Result<Lines
     })
 }
 
-// Makes all functions of a circuit and its claims that a search starts from.
+/// Makes all functions of a circuit and its claims that a search starts from. `Room`, with the part and the place of the call, where
+/// the store has no room for one, and `Variable` after all of the store's variables where the circuit takes more than it has.
 pub fn build<S: Store>(store: &mut S, described: &Described) -> Result<Built, Fault>
-    ensures { Builds (S.Store.shows store.old) (netlist described.now.circuit) (used described.now.assumption) (used described.now.property) result (S.Store.shows store.new) }
+    ensures { Builds (S.Store.shows store.old) (netlist (circuit_of described.now)) (used (assumption_of described.now)) (used (property_of described.now)) result (S.Store.shows store.new) }
 {
-    let lines = make_lines(store, &described.circuit)?;
-    let assumed = make_claim(store, Part::Assumption, &lines, &described.assumption)?;
-    let promised = make_claim(store, Part::Property, &lines, &described.property)?;
+    let lines = make_lines(store, described.circuit())?;
+    let assumed = make_claim(store, Part::Assumption, &lines, described.assumption())?;
+    let promised = make_claim(store, Part::Property, &lines, described.property())?;
     let start = make_start(store, &lines, assumed, promised);
     place_at(start, Part::Sets, 0)
 }

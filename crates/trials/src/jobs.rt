@@ -21,7 +21,7 @@ pub(crate) const JOB: [u8; 22] = [
 // The sizes of a job's circuit, or the fault of the frame or of what is in it.
 fn read(job: &[u8]) -> Result<Sizes, Fault> {
     let described = describe(split(job)?, VARIABLES).map_err(Uncalled::Description)?;
-    Ok(described.circuit.sizes())
+    Ok(described.circuit().sizes())
 }
 
 fn refused(fault: Misdescription) -> Result<Sizes, Fault> {

@@ -1,68 +1,76 @@
-use Rattle.std.proofs.Common.{◌≤◌, length, Ok, Err, sym, subst, append_assoc}
-use Rattle.store.specs.Fun.{bit}
-use Rattle.circuit.specs.Netlists.{lines}
+use Rattle.std.proofs.Common.{◌≡◌, ℕ, IsErrAnd, Err, Result, ◌∙◌, subst}
+use Rattle.store.specs.declared.refusal.Refusal.{Refusal}
+use Rattle.store.specs.Meaning.{Shown}
+use Rattle.circuit.specs.declared.circuit.Circuit.{Circuit}
 use Rattle.circuit.specs.Reading.{netlist}
+use Rattle.claim.specs.declared.codes.Codes.{Codes}
 use Rattle.claim.specs.Result.{used}
-use Rattle.description.specs.declared.part.Part.TheVariants.{Assumption, Property, Sets}
-use Rattle.runs.specs.Functions.{copy}
-use Rattle.runs.specs.Valuations.{line_fn, claim_fn, next_fn, init_fn}
-use Rattle.making.specs.Models.{model, alone, width}
-use Rattle.making.specs.Pieces.{variables_list, gates_list}
-use Rattle.making.specs.Loads.{start_list, Loaded}
-use Rattle.making.specs.Ends.{Ends, located}
-use Rattle.making.specs.Promises.{MakesClaim, MakesStart}
-use Rattle.making.proofs.Steps.{kept, runs_grown, grown_more, runs_of, broke, ends_after, ends_before, ends_with, ends_as}
-use Rattle.making.proofs.Loops.{numbered_kept}
-use Rattle.making.proofs.Placing.{gained}
-use Rattle.making.proofs.Starting.{lies_start}
-use Rattle.making.proofs.Joining.{loaded_model}
+use Rattle.description.specs.declared.described.Described.{Described}
+use Rattle.description.specs.declared.part.Part.{Part}
+use Rattle.description.specs.declared.part.Part.TheVariants.{Assumption, Property}
+use Rattle.description.specs.Results.{circuit_of, assumption_of, property_of}
+use Rattle.making.specs.declared.fault.Fault.{Fault}
+use Rattle.making.specs.declared.lines.Lines.{Lines}
+use Rattle.making.specs.declared.parts.Built.{Built}
+use Rattle.making.specs.Models.{alone}
+use Rattle.making.specs.Promises.{MakesLines, MakesClaim, MakesStart, Builds}
+use Rattle.making.proofs.Steps.{exits}
+use Rattle.making.proofs.Building.{unlined, unassumed, unpromised, started}
 use Rattle.making.proofs.load.build.Goals as goal
 
+-- the parts that were lent are those of what was described
+module _ (d : Described) {s t : Shown} where
+  exit : (r : Result Built Fault) {e : Fault} → IsErrAnd r (λ y. y ≡ e)
+      → Builds s (netlist (circuit_of d)) (used (assumption_of d)) (used (property_of d)) (Err e) t
+      → Builds s (netlist (circuit_of d)) (used (assumption_of d)) (used (property_of d)) r t
+  exit r {e = e} is = exits (λ z. Builds s (netlist (circuit_of d)) (used (assumption_of d)) (used (property_of d)) z t) r e is
+
+  of_lines : {x : Circuit} {r : Result Lines Fault} → x ≡ circuit_of d → MakesLines s (alone (netlist x)) r t → MakesLines s (alone (netlist (circuit_of d))) r t
+  of_lines {r = r} e k = subst (λ z. MakesLines s (alone (netlist z)) r t) e k
+
+  of_claim : (p : Part) (k : Lines) {x y : Codes} {r : Result ℕ Fault} → k.circuit.now ≡ circuit_of d → x ≡ y
+      → MakesClaim s p (alone (netlist k.circuit.now)) (used x) k.numbers.items r t
+      → MakesClaim s p (alone (netlist (circuit_of d))) (used y) k.numbers.items r t
+  of_claim p k {x = x} {y = y} {r = r} e f h =
+      subst (λ z. MakesClaim s p (alone (netlist (circuit_of d))) (used z) k.numbers.items r t) f
+      (subst (λ z. MakesClaim s p (alone (netlist z)) (used x) k.numbers.items r t) e h)
+
+  of_start : (k : Lines) {a b : ℕ} {r : Result Built Refusal} → k.circuit.now ≡ circuit_of d
+      → MakesStart s (alone (netlist k.circuit.now)) k.numbers.items k.copies.items a b r t
+      → MakesStart s (alone (netlist (circuit_of d))) k.numbers.items k.copies.items a b r t
+  of_start k {a = a} {b = b} {r = r} e h = subst (λ z. MakesStart s (alone (netlist z)) k.numbers.items k.copies.items a b r t) e h
+
 pub returns-in_err-lines : goal.returns-in_err-lines
-returns-in_err-lines g c h q eh eq kh kq l w =
-    let m = model (netlist c.args.described.now.circuit) h q in
-    broke c.from_residual.result c.in_err-lines.field-0.0 c.from_residual.ensures.1
-    (ends_as (append_assoc (variables_list (width m)) (gates_list m (length m.circuit.gates)) _) (ends_before _ (c.in_err-lines.ensures.makes l w)))
+returns-in_err-lines g c =
+    let d = c.args.described.now in
+    exit d c.from_residual.result c.from_residual.ensures.1
+    (unlined (netlist (circuit_of d)) (used (assumption_of d)) (used (property_of d)) d.stated _ _ _ (of_lines d c.circuit.ensures c.in_err-lines.ensures.makes))
 
 pub returns-in_err-assumed : goal.returns-in_err-assumed
-returns-in_err-assumed g c h q eh eq kh kq l w =
-    let m = model (netlist c.args.described.now.circuit) h q in
-    let r1 = runs_of (c.in_ok-lines.ensures.makes l w) in
+returns-in_err-assumed g c =
+    let d = c.args.described.now in
     let k = c.in_ok-lines.lines in
-    let claim = subst (λ z. MakesClaim (g.S.Store.shows c.make_lines.new.store) Assumption (alone (netlist z)) (used c.args.described.now.assumption) k.numbers.items (Err c.in_err-assumed.field-0.0) (g.S.Store.shows c.make_claim.new.store)) c.in_ok-lines.ensures.circuit c.in_err-assumed.ensures in
-    broke c.from_residual-in_err-assumed.result c.in_err-assumed.field-0.0 c.from_residual-in_err-assumed.ensures.1
-    (ends_as (append_assoc (variables_list (width m)) (gates_list m (length m.circuit.gates)) _) (ends_after r1.0 (ends_before _ (claim h eh kh r1.1.0 r1.1.1))))
+    exit d c.from_residual-in_err-assumed.result c.from_residual-in_err-assumed.ensures.1
+    (unassumed (netlist (circuit_of d)) (used (assumption_of d)) (used (property_of d)) d.stated _ _ k (of_lines d c.circuit.ensures c.in_ok-lines.ensures.makes) _ _
+    (of_claim d Assumption k (c.in_ok-lines.ensures.circuit ∙ c.circuit.ensures) c.assumption.ensures c.in_err-assumed.ensures))
 
 pub returns-in_err-promised : goal.returns-in_err-promised
-returns-in_err-promised g c h q eh eq kh kq l w =
-    let m = model (netlist c.args.described.now.circuit) h q in
-    let r1 = runs_of (c.in_ok-lines.ensures.makes l w) in
+returns-in_err-promised g c =
+    let d = c.args.described.now in
     let k = c.in_ok-lines.lines in
-    let claim = subst (λ z. MakesClaim (g.S.Store.shows c.make_lines.new.store) Assumption (alone (netlist z)) (used c.args.described.now.assumption) k.numbers.items (Ok c.in_ok-assumed.assumed) (g.S.Store.shows c.make_claim.new.store)) c.in_ok-lines.ensures.circuit c.in_ok-assumed.ensures in
-    let r2 = runs_of (claim h eh kh r1.1.0 r1.1.1) in
-    let lined = numbered_kept k.numbers.items (line_fn m) (lines m.circuit) (runs_grown r2.0) r1.1.1 in
-    let promise = subst (λ z. MakesClaim (g.S.Store.shows c.make_claim.new.store) Property (alone (netlist z)) (used c.args.described.now.property) k.numbers.items (Err c.in_err-promised.field-0.0) (g.S.Store.shows c.make_claim-2.new.store)) c.in_ok-lines.ensures.circuit c.in_err-promised.ensures in
-    broke c.from_residual-in_err-promised.result c.in_err-promised.field-0.0 c.from_residual-in_err-promised.ensures.1
-    (ends_as (append_assoc (variables_list (width m)) (gates_list m (length m.circuit.gates)) _)
-    (ends_after r1.0 (ends_after r2.0 (ends_before _ (promise q eq kq r2.1.0 lined)))))
+    let e = c.in_ok-lines.ensures.circuit ∙ c.circuit.ensures in
+    exit d c.from_residual-in_err-promised.result c.from_residual-in_err-promised.ensures.1
+    (unpromised (netlist (circuit_of d)) (used (assumption_of d)) (used (property_of d)) d.stated _ _ k (of_lines d c.circuit.ensures c.in_ok-lines.ensures.makes) _ _
+    (of_claim d Assumption k e c.assumption.ensures c.in_ok-assumed.ensures) _ _
+    (of_claim d Property k e c.property.ensures c.in_err-promised.ensures))
 
 pub returns : goal.returns
-returns g c h q eh eq kh kq l w =
-    let m = model (netlist c.args.described.now.circuit) h q in
-    let r1 = runs_of (c.in_ok-lines.ensures.makes l w) in
+returns g c =
+    let d = c.args.described.now in
     let k = c.in_ok-lines.lines in
-    let claim = subst (λ z. MakesClaim (g.S.Store.shows c.make_lines.new.store) Assumption (alone (netlist z)) (used c.args.described.now.assumption) k.numbers.items (Ok c.in_ok-assumed.assumed) (g.S.Store.shows c.make_claim.new.store)) c.in_ok-lines.ensures.circuit c.in_ok-assumed.ensures in
-    let r2 = runs_of (claim h eh kh r1.1.0 r1.1.1) in
-    let lined = numbered_kept k.numbers.items (line_fn m) (lines m.circuit) (runs_grown r2.0) r1.1.1 in
-    let promise = subst (λ z. MakesClaim (g.S.Store.shows c.make_claim.new.store) Property (alone (netlist z)) (used c.args.described.now.property) k.numbers.items (Ok c.in_ok-promised.promised) (g.S.Store.shows c.make_claim-2.new.store)) c.in_ok-lines.ensures.circuit c.in_ok-promised.ensures in
-    let r3 = runs_of (promise q eq kq r2.1.0 lined) in
-    let g3 = runs_grown r3.0 in
-    let g23 = grown_more (runs_grown r2.0) g3 in
-    let t = g.S.Store.shows c.make_start-start.new.store in
-    let start = subst (λ z. MakesStart (g.S.Store.shows c.make_claim-2.new.store) (alone (netlist z)) k.numbers.items k.copies.items c.in_ok-assumed.assumed c.in_ok-promised.promised c.make_start-start.result t) c.in_ok-lines.ensures.circuit c.make_start-start.ensures in
-    let started = start Sets 0 (claim_fn m h) (claim_fn m q) (subst (λ v. width m ≤ v) (sym (grown_more (runs_grown r1.0) g23).vars) w)
-    (numbered_kept k.numbers.items (line_fn m) (lines m.circuit) g3 lined) (numbered_kept k.copies.items (λ i. bit (copy i)) m.circuit.registers g23 r1.1.2) (kept g3 r2.1.1) r3.1.1 in
-    ends_as (append_assoc (variables_list (width m)) (gates_list m (length m.circuit.gates)) _) (ends_after r1.0 (ends_after r2.0 (ends_after r3.0
-    (subst (Ends located _ t (start_list Sets 0 m.circuit.registers m.circuit.inputs (claim_fn m h) (claim_fn m q) (init_fn m) (next_fn m)) (Loaded t m (claim_fn m h) (claim_fn m q))) (sym c.place_at.ensures)
-    (gained Sets 0 (lies_start Sets 0 m.circuit.registers m.circuit.inputs (claim_fn m h) (claim_fn m q) (init_fn m) (next_fn m))
-    (ends_with {Q = Loaded t m (claim_fn m h) (claim_fn m q)} (λ b v k. loaded_model m.circuit h q k) started))))))
+    let e = c.in_ok-lines.ensures.circuit ∙ c.circuit.ensures in
+    rw c.place_at.ensures
+    (started (netlist (circuit_of d)) (used (assumption_of d)) (used (property_of d)) d.stated _ _ k (of_lines d c.circuit.ensures c.in_ok-lines.ensures.makes) _ _
+    (of_claim d Assumption k e c.assumption.ensures c.in_ok-assumed.ensures) _ _
+    (of_claim d Property k e c.property.ensures c.in_ok-promised.ensures) _ c.make_start-start.result
+    (of_start d k e c.make_start-start.ensures))
