@@ -6,7 +6,7 @@ ghost use Rattle.order.specs.Listing.{is_order, order_of, verdict, Fits};
 ghost use Rattle.order.specs.Renaming.{ordered};
 ghost use Rattle.order.specs.Facts.{Reorders};
 ghost use Rattle.order.specs.Below.{AnswersAsBelow, TellsAsBelow};
-ghost use Rattle.store.specs.Calls.{Makes, TellsValue, TellsFigures};
+ghost use Rattle.store.specs.Calls.{Makes, MakesVariable, MakesNot, MakesAnd, MakesOr, MakesCofactor, TellsValue, TellsFigures};
 
 mod order;
 
@@ -14,7 +14,7 @@ use order::{Order, is_order};
 use store::Store;
 use store::figures::Figures;
 use store::refusal::{Refusal, Unfit};
-use store::task::Task;
+use store::task::{Op, Task};
 
 // The order is of all variables of the store, or of none: that one renames nothing.
 #[derive(Drop)]
@@ -49,6 +49,61 @@ impl<S: Store> Layer<S> {
         let n = store.figures().variables;
         let order = Order::of(n, p).unwrap_or_default();
         Layer { store, order }
+    }
+}
+
+// The making calls: the trait says of them what holds for any store, so nothing of the order, and these say both.
+impl<S: Store> Layer<S> {
+    ghost use Rattle.order.specs.Layers.{below, order, above};
+
+    /// Variable i, which is variable p(i) below.
+    pub fn variable(&mut self, i: u8) -> Result<u16, Refusal>
+        ensures told { MakesVariable (above self.old) i result (above self.new) }
+        ensures below { MakesVariable (below self.old) (order self.old i) result (below self.new) }
+        ensures order { order self.new ≡ order self.old }
+        ensures reorders { Reorders (order self.new) (below self.new) (above self.new) }
+    {
+        self.answer(Task::Variable(i))
+    }
+
+    /// What is not a.
+    pub fn not(&mut self, a: u16) -> Result<u16, Refusal>
+        ensures told { MakesNot (above self.old) a result (above self.new) }
+        ensures below { MakesNot (below self.old) a result (below self.new) }
+        ensures order { order self.new ≡ order self.old }
+        ensures reorders { Reorders (order self.new) (below self.new) (above self.new) }
+    {
+        self.answer(Task::Not(a))
+    }
+
+    /// Both a and b.
+    pub fn and(&mut self, a: u16, b: u16) -> Result<u16, Refusal>
+        ensures told { MakesAnd (above self.old) a b result (above self.new) }
+        ensures below { MakesAnd (below self.old) a b result (below self.new) }
+        ensures order { order self.new ≡ order self.old }
+        ensures reorders { Reorders (order self.new) (below self.new) (above self.new) }
+    {
+        self.answer(Task::Both(Op::And, a, b))
+    }
+
+    /// Either of a and b.
+    pub fn or(&mut self, a: u16, b: u16) -> Result<u16, Refusal>
+        ensures told { MakesOr (above self.old) a b result (above self.new) }
+        ensures below { MakesOr (below self.old) a b result (below self.new) }
+        ensures order { order self.new ≡ order self.old }
+        ensures reorders { Reorders (order self.new) (below self.new) (above self.new) }
+    {
+        self.answer(Task::Both(Op::Or, a, b))
+    }
+
+    /// The function a with variable i fixed to t, and below with variable p(i).
+    pub fn cofactor(&mut self, a: u16, i: u8, t: bool) -> Result<u16, Refusal>
+        ensures told { MakesCofactor (above self.old) a i t result (above self.new) }
+        ensures below { MakesCofactor (below self.old) a (order self.old i) t result (below self.new) }
+        ensures order { order self.new ≡ order self.old }
+        ensures reorders { Reorders (order self.new) (below self.new) (above self.new) }
+    {
+        self.answer(Task::Cofactor(a, i, t))
     }
 }
 
