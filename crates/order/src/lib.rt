@@ -1,4 +1,4 @@
-// A store over any store: its variable i is variable p(i) below, and all else is as below with the variables so renamed.
+// A store over any store: its variable i is variable p(i) below, and all else is as below, with variables so renamed.
 #![tactic(auto)]
 
 ghost use Rattle.std.specs.Prelude.{◌≡◌};
@@ -6,7 +6,8 @@ ghost use Rattle.order.specs.Listing.{is_order, order_of, verdict, Fits};
 ghost use Rattle.order.specs.Renaming.{ordered};
 ghost use Rattle.order.specs.Facts.{Reorders};
 ghost use Rattle.order.specs.Below.{AnswersAsBelow, TellsAsBelow};
-ghost use Rattle.store.specs.Calls.{Makes, MakesVariable, MakesNot, MakesAnd, MakesOr, MakesCofactor, TellsValue, TellsFigures};
+ghost use Rattle.store.specs.Calls.{Makes, TellsValue, TellsFigures};
+ghost use Rattle.store.specs.Calls.{MakesVariable, MakesNot, MakesAnd, MakesOr, MakesCofactor};
 
 mod order;
 
