@@ -19,7 +19,7 @@ fn both<S: Store + Drop>(
     seen: &mut Seen,
     heap: Global,
 ) -> Result<(), Fail> {
-    let store = agrees(rt, &scripts[0], store, seen, heap)?;
+    let (store, _) = agrees(rt, &scripts[0], store, seen, heap)?;
     agrees(rt, &scripts[1], store, seen, heap)?;
     Ok(())
 }
@@ -52,7 +52,11 @@ fn scripts_agree(rt: HostRuntime) -> Result<(), Fail> {
     }
     assert!(rt; seen.rooms == 0);
     assert!(rt;
-        seen.traces.min(seen.insides).min(seen.loads_after_refusal) > 100,
+        seen.traces
+            .min(seen.insides)
+            .min(seen.starts)
+            .min(seen.loads_after_refusal)
+            > 100,
         "{seen:?}"
     );
     Ok(())

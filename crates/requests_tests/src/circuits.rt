@@ -9,6 +9,14 @@ pub(crate) struct Circuit {
     pub(crate) gates: Vec<[u16; 2]>,
 }
 
+// How many registers, inputs and gates a circuit has.
+#[derive(Clone, Copy)]
+pub(crate) struct Sizes {
+    pub(crate) registers: u16,
+    pub(crate) inputs: u16,
+    pub(crate) gates: u16,
+}
+
 // Two literals, and whether their conjunction is negated.
 #[derive(Clone, Copy)]
 pub(crate) struct Term {
@@ -49,10 +57,24 @@ impl Lines {
     }
 }
 
-impl Circuit {
-    // The lines, of which the first gate's is the first past line 0, the registers and the inputs.
-    pub(crate) fn first_gate(&self) -> u16 {
+impl Sizes {
+    // The line of the first gate, which is the first past line 0, the registers and the inputs.
+    pub(crate) fn first_gate(self) -> u16 {
         self.registers.wrapping_add(self.inputs).wrapping_add(1)
+    }
+}
+
+impl Circuit {
+    pub(crate) fn sizes(&self) -> Sizes {
+        Sizes {
+            registers: self.registers,
+            inputs: self.inputs,
+            gates: self.count(),
+        }
+    }
+
+    fn first_gate(&self) -> u16 {
+        self.sizes().first_gate()
     }
 
     // The line of Init.
@@ -60,7 +82,7 @@ impl Circuit {
         self.first_next().wrapping_add(self.registers)
     }
 
-    pub(crate) fn count(&self) -> u16 {
+    fn count(&self) -> u16 {
         u16::try_from(self.gates.len()).unwrap_or(0)
     }
 

@@ -1,7 +1,7 @@
 // Circuit files and texts that look random, with what the rules say of each: a problem to search, or a refusal.
 ghost use Rattle.std.specs.Prelude.{◌<◌};
 
-use crate::circuits::{Circuit, Claim, Term};
+use crate::circuits::{Circuit, Claim, Sizes, Term};
 use crate::random::Random;
 use crate::search::Problem;
 use description::notice::Notice;
@@ -110,8 +110,8 @@ impl Job {
             job.refuse(number, Part::Assumption, place);
         }
         if random.once_in(3) {
-            let first_gate = job.problem.circuit.first_gate();
-            let (number, place) = spoil_file(random, first_gate, &mut job.file);
+            let sizes = job.problem.circuit.sizes();
+            let (number, place) = spoil_file(random, sizes, &mut job.file);
             job.refuse(number, Part::Circuit, place);
         }
         Ok(job)
@@ -139,10 +139,15 @@ fn put(file: &mut [u8], place: usize, number: u16) {
     }
 }
 
+// Writes a line as the left literal of a gate.
+fn put_left(file: &mut [u8], gate: u16, line: u16) {
+    put(file, 6 + 2 * usize::from(gate), line.wrapping_mul(2));
+}
+
 // Spoils a file, and answers the number and the place of the refusal.
-fn spoil_file(random: &mut Random, first_gate: u16, file: &mut Vec<u8>) -> (u8, usize) {
+fn spoil_file(random: &mut Random, sizes: Sizes, file: &mut Vec<u8>) -> (u8, usize) {
     let length = file.len();
-    match random.below(6) {
+    match random.below(7) {
         0 => {
             file.truncate(length.wrapping_sub(1));
             (2, length.wrapping_sub(1))
@@ -163,16 +168,26 @@ fn spoil_file(random: &mut Random, first_gate: u16, file: &mut Vec<u8>) -> (u8, 
             put(file, 4, 1);
             (3, 2)
         }
+        5 if sizes.inputs > 0 => spoil_init(random, sizes, file),
         _ => {
             let gate = random.below(2);
-            put(
-                file,
-                6 + 2 * usize::from(gate),
-                first_gate.wrapping_add(gate).wrapping_mul(2),
-            );
+            put_left(file, gate, sizes.first_gate().wrapping_add(gate));
             (5, usize::from(gate))
         }
     }
+}
+
+// Lets Init touch input 0, by its own literal or through gate 0.
+fn spoil_init(random: &mut Random, sizes: Sizes, file: &mut [u8]) -> (u8, usize) {
+    let input = sizes.registers.wrapping_add(1);
+    let init = sizes.gates.wrapping_sub(1);
+    if random.once_in(2) {
+        put_left(file, init, input);
+    } else {
+        put_left(file, 0, input);
+        put_left(file, init, sizes.first_gate());
+    }
+    (6, usize::from(init))
 }
 
 // Spoils a text, and answers the number and the place of the refusal.

@@ -1,5 +1,6 @@
 // Requests over each make of store, and over layers.
-use crate::scripts::{Arrays, Ask, Plain, Script, UNWRITTEN, exchanges, sources, told_of};
+use crate::scripts::{Arrays, Ask, Plain, Script, Told, UNWRITTEN, exchanges, sources, told_of};
+use description::notice::Notice;
 use description::source::Source;
 use making::fault::Fault as Unmade;
 use order::Layer;
@@ -51,6 +52,7 @@ pub(crate) fn replies<S: Store + Drop>(
 pub(crate) struct Seen {
     pub(crate) traces: u32,
     pub(crate) insides: u32,
+    pub(crate) starts: u32,
     pub(crate) loads_after_refusal: u32,
     pub(crate) rooms: u32,
     pub(crate) same_rooms: u32,
@@ -69,15 +71,15 @@ fn is_room(reply: Reply) -> bool {
     )
 }
 
-// Each reply of a session over the store, and each array, is what the rules say, but that a call that they accept may be refused for room.
-// Such a refusal leaves the session as it was, and comes again when the call is made again.
+// Each reply of a session over the store, and each array, is what the rules say, but that a call that they accept
+// may be refused for room. Such a refusal leaves the session as it was, and comes again when the call is made again.
 pub(crate) fn agrees<S: Store + Drop>(
     rt: &impl Abort,
     script: &Script,
     store: S,
     seen: &mut Seen,
     heap: Global,
-) -> Result<S, Fail> {
+) -> Result<(S, Vec<(Reply, Arrays)>), Fail> {
     let sources = sources(&script.jobs, heap)?;
     let (store, replies) = replies(&script.asks, &sources, store, heap)?;
     let mut plain = Plain::new(heap);
@@ -96,10 +98,10 @@ pub(crate) fn agrees<S: Store + Drop>(
             count(&mut seen.rooms, true);
             room = Some((*ask, *reply));
         } else {
-            assert_eq!(rt;
-                told_of(*reply),
-                plain.answer(*ask, &script.jobs, &mut wanted)?
-            );
+            let told = told_of(*reply);
+            assert_eq!(rt; Some(told), plain.answer(*ask, &script.jobs, &mut wanted)?);
+            let start = matches!(told, Told::Load(Err(Notice { number: 6, .. })));
+            count(&mut seen.starts, start);
             let loads = matches!(reply, Reply::Load(Ok(_)));
             count(&mut seen.traces, matches!(reply, Reply::Trace(Ok(_))));
             count(&mut seen.insides, matches!(reply, Reply::Inside(Ok(_))));
@@ -112,5 +114,5 @@ pub(crate) fn agrees<S: Store + Drop>(
         }
         assert_eq!(rt; *arrays, wanted);
     }
-    Ok(store)
+    Ok((store, replies))
 }

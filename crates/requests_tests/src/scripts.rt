@@ -203,29 +203,31 @@ impl<'a> Plain<'a> {
         }
     }
 
-    // The answer to a request, for which the arrays are written over.
+    // The answer to a request, for which the arrays are written over. A load of a job that is not there has none.
     pub(crate) fn answer(
         &mut self,
         ask: Ask,
         jobs: &'a [Job],
         arrays: &mut Arrays,
-    ) -> Result<Told, AllocError> {
-        Ok(match ask {
-            Ask::Load(place) => Told::Load(self.load(jobs.get(place))?),
+    ) -> Result<Option<Told>, AllocError> {
+        Ok(Some(match ask {
+            Ask::Load(place) => {
+                let Some(job) = jobs.get(place) else {
+                    return Ok(None);
+                };
+                Told::Load(self.load(job)?)
+            }
             Ask::Advance => Told::Advance(self.advance()?),
             Ask::Verdict => Told::Verdict(self.verdict()),
             Ask::Trace { states, inputs } => Told::Trace(self.trace(states.min(inputs), arrays)),
             Ask::Inside(state) => Told::Inside(self.inside(state)),
-        })
+        }))
     }
 
-    fn load(&mut self, job: Option<&'a Job>) -> Result<Result<Verdict, Notice>, AllocError> {
+    fn load(&mut self, job: &'a Job) -> Result<Result<Verdict, Notice>, AllocError> {
         if self.problem.is_some() {
             return Ok(Err(refused(1)));
         }
-        let Some(job) = job else {
-            return Ok(Ok(Verdict::Empty));
-        };
         if let Some(notice) = job.refusal {
             return Ok(Err(notice));
         }

@@ -24,7 +24,8 @@ impl Problem {
         1u16.wrapping_shl(u32::from(self.circuit.inputs))
     }
 
-    // Whether the assumption holds at a step, and the step leads into the set, or breaks the property where there is no set.
+    // Whether the assumption holds at a step, and the step leads into the set, or breaks the property where there is
+    // no set.
     fn leads(&self, state: u16, input: u16, set: Option<u32>) -> bool {
         let lines = self.circuit.lines(state, input);
         lines.claim(&self.assumption)

@@ -6,6 +6,7 @@ use diagram::Diagram;
 use engine::session::Session;
 use engine::settled::Settled;
 use engine::step::Step;
+use making::fault::Fault as Unmade;
 use nodes::Node;
 use order::Layer;
 use std::array;
@@ -183,6 +184,79 @@ fn room_in_every_part(rt: HostRuntime) -> Result<(), Fail> {
     }
     let mut tables = [Truths::default(); 24];
     assert_eq!(rt; refusal(Table::new(10, &mut tables, &mut []), source), None);
+    Ok(())
+}
+
+// What a settle answers, as the verdict and the advances.
+fn settled<S: Store>(session: &mut Session<S>) -> Result<(Verdict, u16), Fault> {
+    Ok(match session.settle()? {
+        Settled::Safe(depth) => (Verdict::Safe, depth.advances),
+        Settled::Unsafe(depth) => (Verdict::Unsafe(depth.advances), depth.advances),
+    })
+}
+
+// A session that made some of its advances, or all of them, is settled, and once more: the same is told each time.
+fn settles<S: Store + Drop>(
+    rt: &impl Abort,
+    mut store: S,
+    source: Source,
+    last: (Verdict, u16),
+) -> Result<(), Fail> {
+    let (verdict, total) = last;
+    for made in 0..total.wrapping_add(1) {
+        let mut session = Session::new(&mut store);
+        assert_eq!(rt; settled(&mut session), Err(Fault::Empty));
+        let mut told = session.load(source)?;
+        for _ in 0..made {
+            assert_eq!(rt; told, Verdict::Open);
+            told = session.advance()?;
+        }
+        assert_eq!(rt; told == verdict, made == total);
+        assert_eq!(rt; settled(&mut session), Ok(last));
+        assert_eq!(rt; settled(&mut session), Ok(last));
+        assert_eq!(rt; session.verdict(), verdict);
+    }
+    Ok(())
+}
+
+// With `!v0` the delay is safe after two advances: the sets are 2 and 3, then 1 too, which is the last state that is
+// led there, and the same again.
+#[test]
+fn settles_after_advances(rt: HostRuntime) -> Result<(), Fail> {
+    let mut nodes = [Node::default(); 100];
+    let mut tables = [Truths::default(); 50];
+    let table = [
+        (source(&DELAY, b"1", b"!s1"), (Verdict::Unsafe(2), 2)),
+        (source(&DELAY, b"!v0", b"!s1"), (Verdict::Safe, 2)),
+        (source(&FOLLOW, b"!v0", b"!s0"), (Verdict::Safe, 1)),
+        (source(&FOLLOW, b"1", b"s0"), (Verdict::Unsafe(0), 0)),
+        (source(&SWAP, b"1", b"!s0 | !s1"), (Verdict::Safe, 1)),
+    ];
+    for (source, last) in table {
+        settles(&rt, Diagram::new(10, &mut nodes, &mut []), source, last)?;
+        settles(&rt, Table::new(10, &mut tables, &mut []), source, last)?;
+    }
+    Ok(())
+}
+
+// The delay's load wants 14 records, the first advance 5 more, and the second 5.
+#[test]
+fn settles_as_far_as_there_is_room(rt: HostRuntime) -> Result<(), Fail> {
+    let mut tables = [Truths::default(); 23];
+    let source = source(&DELAY, b"s0 | v0", b"!(s1 & v0)");
+    for (records, place) in [(14, 0), (18, 0), (19, 1), (23, 1)] {
+        let refusal = Fault::Making(Unmade::Room {
+            part: Part::Sets,
+            place,
+            free: 0,
+        });
+        let mut session = Session::new(Table::new(10, &mut tables[0..records], &mut []));
+        assert_eq!(rt; session.load(source), Ok(Verdict::Open));
+        assert_eq!(rt; settled(&mut session), Err(refusal));
+        assert_eq!(rt; session.verdict(), Verdict::Open);
+        assert_eq!(rt; session.advance(), Err(refusal));
+        assert_eq!(rt; settled(&mut session), Err(refusal));
+    }
     Ok(())
 }
 
