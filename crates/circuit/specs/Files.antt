@@ -28,9 +28,14 @@ abbrev pub gate_at : List ℕ → ℕ → ℕ → Gate
 gate_at bs k g = record { left = literal_of (number_at bs (3 + g)); right = literal_of (number_at bs (3 + k + g)) }
 
 abbrev pub says : List ℕ → Netlist
-says bs = record { registers = registers bs; inputs = inputs bs; gates = map (gate_at bs (count bs)) (range_with_len 0 (count bs)) }
+says bs = record {
+  registers = registers bs;
+  inputs = inputs bs;
+  gates = map (gate_at bs (count bs)) (range_with_len 0 (count bs));
+}
 
--- a number as it is written: two bytes, low byte first; of 65,536 or more the second would be no byte, so no file has such a number
+-- a number as it is written: two bytes, low byte first; of 65,536 or more the second would be no byte, so no file has
+-- such a number
 abbrev pub number_bytes : ℕ → List ℕ
 number_bytes x = x % 256 ∷ x / 256 ∷ []
 

@@ -1,5 +1,6 @@
 -- A job: the lengths of the two texts as file numbers, the circuit file, the assumption and the property.
-use Rattle.std.specs.Prelude.{◌≡◌, ℕ, ◌+◌, ◌*◌, cond, List, ◌++◌, length, take, drop, Ok, Err, Result, ◌==◌, nat_lt}
+use Rattle.std.specs.Prelude.{◌≡◌, ℕ, ◌+◌, ◌*◌, ◌==◌, nat_lt, cond, List, ◌++◌, length, take, drop}
+use Rattle.std.specs.Prelude.{Ok, Err, Result}
 use Rattle.circuit.specs.Files.{number_at, number_bytes, count}
 use Rattle.description.specs.declared.source.Source.{Source}
 use Rattle.job.specs.declared.fault.Fault.{Fault}

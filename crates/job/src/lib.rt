@@ -18,10 +18,11 @@ use store::MOST_VARIABLES;
 // How many variables the store of a program has.
 pub const VARIABLES: u8 = MOST_VARIABLES;
 
-// The bytes of the longest job: the lengths, the circuit file with the most gates, and two longest texts. Written out, since a constant calls no function.
+// The bytes of the longest job that can be accepted: the lengths, the circuit file with the most gates, and two longest
+// texts. Written out, since a constant calls no function.
 pub const LONGEST: usize = 4 + (6 + 4 * MOST_GATES) + 2 * claim::LONGEST;
 
-/// How many bytes a program reads: one more than the longest job has.
+/// How many bytes a program reads: one more than the longest job that can be accepted has.
 pub const MOST_BYTES: usize = LONGEST + 1;
 
 /// Cuts a job into the circuit file, the assumption and the property, or refuses its length.

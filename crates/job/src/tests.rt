@@ -46,7 +46,9 @@ fn first_bytes_are_read(rt: HostRuntime) {
     ] {
         let mut room = [9; MOST_BYTES];
         let mut whole = &bytes[..length];
-        let job = read(&mut whole, &mut room).unwrap_or(b"");
+        let answer = read(&mut whole, &mut room);
+        assert!(rt; answer.is_ok());
+        let job = answer.unwrap_or(b"");
         assert_eq!(rt; job.len(), count);
         assert!(rt; job == &bytes[..count]);
         assert_eq!(rt; whole.len(), length - count);
@@ -57,7 +59,9 @@ fn first_bytes_are_read(rt: HostRuntime) {
             interrupted: false,
             fails: false,
         };
-        let job = read(&mut halting, &mut room).unwrap_or(b"");
+        let answer = read(&mut halting, &mut room);
+        assert!(rt; answer.is_ok());
+        let job = answer.unwrap_or(b"");
         assert!(rt; job == &bytes[..count]);
         assert_eq!(rt; halting.bytes.len(), length - count);
     }
