@@ -1,1 +1,2 @@
 mod Longest
+mod Ending
