@@ -1,5 +1,5 @@
 -- What a refusal of a job for room says, and that nothing that the store had is lost.
-use Rattle.std.proofs.Common.{◌≡◌, ℕ, ◌⊎◌, List, length, refl, subst, inl, inr}
+use Rattle.std.proofs.Common.{◌≡◌, ℕ, ◌⊎◌, List, length, subst, inl, inr}
 use Rattle.store.specs.Meaning.{Shown, free, Grown}
 use Rattle.description.specs.Checks.{right}
 use Rattle.description.specs.declared.part.Part.{Part}

@@ -22,10 +22,14 @@ abbrev pub steps_text : Trace → List ℕ
 steps_text t = steps_before (length t.steps.items) (state_at t) (input_at t)
 
 abbrev pub safe_text : Sizes → ℕ → ℕ → List ℕ
-safe_text z d c = sizes_text z ++ (codes "\nverdict safe\ndepth " ++ (decimal d ++ (codes "\ninside " ++ (decimal c ++ codes "\naccepted 1\n"))))
+safe_text z d c =
+    sizes_text z
+    ++ (codes "\nverdict safe\ndepth " ++ (decimal d ++ (codes "\ninside " ++ (decimal c ++ codes "\naccepted 1\n"))))
 
 abbrev pub unsafe_text : Sizes → ℕ → List ℕ → List ℕ
-unsafe_text z d steps = sizes_text z ++ (codes "\nverdict unsafe\ndepth " ++ (decimal d ++ (codes "\n" ++ (steps ++ codes "accepted 0\n"))))
+unsafe_text z d steps =
+    sizes_text z
+    ++ (codes "\nverdict unsafe\ndepth " ++ (decimal d ++ (codes "\n" ++ (steps ++ codes "accepted 0\n"))))
 
 abbrev pub text : Report → List ℕ
 text (Safe z d c) = safe_text z d c

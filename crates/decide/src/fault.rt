@@ -15,7 +15,8 @@ pub enum Fault {
     Call(Refusal),
 }
 
-// A conversion for each error, since each makes a case of its own; by hand, since a clause says which (`from_gives`), and a derive does not.
+// A conversion for each error, since each makes a case of its own; by hand, since a clause says which (`from_gives`),
+// and a derive does not.
 impl From<Unframed> for Fault {
     ghost from_gives = { λ e r. r ≡ of_frame e };
 

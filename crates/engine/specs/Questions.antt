@@ -1,5 +1,6 @@
 -- What the questions of a session promise one another: s is what the store shows.
-use Rattle.std.specs.Prelude.{◌≡◌, ℕ, suc, ◌*◌, ◌+◌, ◌^◌, ◌<◌, ◌≤◌, Bool, false, List, length, drop, Option, None, Some, Ok, Err, Result, slice_index}
+use Rattle.std.specs.Prelude.{◌≡◌, ℕ, suc, ◌*◌, ◌+◌, ◌^◌, ◌<◌, ◌≤◌, Bool, false, List, length, drop, slice_index}
+use Rattle.std.specs.Prelude.{Option, None, Some, Ok, Err, Result}
 use Rattle.arrayvec.specs.ArrayVec.{array_vec_len}
 use Rattle.std.specs.Borrow.{MutBor}
 use Rattle.store.specs.Fun.{Fn}
@@ -28,29 +29,67 @@ pub record Readable (s : Shown) (m : Model) (k : Parts) : Type 0 where
 
 -- the truth of number a at the valuation of a state and an input
 abbrev pub Tells : Shown → ℕ → ℕ → ℕ → ℕ → Result Bool Unmade → Type 0
-Tells s n a q v r = (m : ℕ) (f : Fn) → Means s a f → 2 * n + m ≤ s.vars → q < 2 ^ n → v < 2 ^ m → r ≡ Ok (f (spread n q v))
+Tells s n a q v r =
+    (m : ℕ) (f : Fn)
+    → Means s a f
+    → 2 * n + m ≤ s.vars
+    → q < 2 ^ n
+    → v < 2 ^ m
+    → r ≡ Ok (f (spread n q v))
 
 abbrev pub GoesTo : Shown → Parts → ℕ → ℕ → Result ℕ Unmade → Type 0
-GoesTo s k q v r = (m : Model) → Readable s m k → State (system m) q → Input (system m) v → r ≡ Ok ((system m).next q v)
+GoesTo s k q v r =
+    (m : Model)
+    → Readable s m k
+    → State (system m) q
+    → Input (system m) v
+    → r ≡ Ok ((system m).next q v)
 
 -- a is the number of the set B_i
 abbrev pub Leads : Shown → Parts → ℕ → ℕ → ℕ → Result Bool Unmade → Type 0
-Leads s k a q v r = (m : Model) (i : ℕ) → Readable s m k → Means s a (set_fn m i) → State (system m) q → Input (system m) v
+Leads s k a q v r =
+    (m : Model) (i : ℕ)
+    → Readable s m k
+    → Means s a (set_fn m i)
+    → State (system m) q
+    → Input (system m) v
     → r ≡ Ok (leads_into (system m) (bad (system m) i) q v)
 
 abbrev pub Faults : Shown → Parts → ℕ → ℕ → Result Bool Unmade → Type 0
-Faults s k q v r = (m : Model) → Readable s m k → State (system m) q → Input (system m) v → r ≡ Ok (faulty (system m) q v)
+Faults s k q v r =
+    (m : Model)
+    → Readable s m k
+    → State (system m) q
+    → Input (system m) v
+    → r ≡ Ok (faulty (system m) q v)
 
 abbrev pub Begins : Shown → Parts → ℕ → ℕ → Result Bool Unmade → Type 0
-Begins s k a q r = (m : Model) (i : ℕ) → Readable s m k → Means s a (set_fn m i) → State (system m) q → r ≡ Ok (initial_in (system m) (bad (system m) i) q)
+Begins s k a q r =
+    (m : Model) (i : ℕ)
+    → Readable s m k
+    → Means s a (set_fn m i)
+    → State (system m) q
+    → r ≡ Ok (initial_in (system m) (bad (system m) i) q)
+
+-- a test that is called with a store and a number: the store before, the number, the answer and the store after
+abbrev pub Test : Type 0 → Type 1
+Test A = MutBor A → ℕ → Result Bool Unmade → MutBor A → Type 0
 
 -- a call of a test leaves what the store shows
-abbrev pub Keeping : {A : Type 0} → (A → Shown) → (MutBor A → ℕ → Result Bool Unmade → MutBor A → Type 0) → Type 0
-Keeping {A} shows calls = (a b : MutBor A) (x : ℕ) (r : Result Bool Unmade) → calls a x r b → shows b.now ≡ shows a.now
+abbrev pub Keeping : {A : Type 0} → (A → Shown) → Test A → Type 0
+Keeping {A} shows calls =
+    (a b : MutBor A) (x : ℕ) (r : Result Bool Unmade)
+    → calls a x r b
+    → shows b.now ≡ shows a.now
 
 -- below n a test answers f, where the store shows s
-abbrev pub Telling : {A : Type 0} → (A → Shown) → (MutBor A → ℕ → Result Bool Unmade → MutBor A → Type 0) → Shown → ℕ → (ℕ → Bool) → Type 0
-Telling {A} shows calls s n f = (a b : MutBor A) (x : ℕ) (r : Result Bool Unmade) → shows a.now ≡ s → x < n → calls a x r b → r ≡ Ok (f x)
+abbrev pub Telling : {A : Type 0} → (A → Shown) → Test A → Shown → ℕ → (ℕ → Bool) → Type 0
+Telling {A} shows calls s n f =
+    (a b : MutBor A) (x : ℕ) (r : Result Bool Unmade)
+    → shows a.now ≡ s
+    → x < n
+    → calls a x r b
+    → r ≡ Ok (f x)
 
 -- the smallest number below n at which f holds; a refusal if there is none
 abbrev pub Finds : ℕ → (ℕ → Bool) → Result ℕ Unmade → Type 0

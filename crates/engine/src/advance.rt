@@ -33,7 +33,10 @@ impl Search {
     }
 
     fn advance<S: Store>(&mut self, store: &mut S) -> Result<Verdict, Fault>
-        ensures next { Next (searching (S.Store.shows store.old) self.old) (advance result) (searching (S.Store.shows store.new) self.new) }
+        ensures next { Next
+            (searching (S.Store.shows store.old) self.old)
+            (advance result)
+            (searching (S.Store.shows store.new) self.new) }
         ensures refused { is_err result ≡ true → self.new ≡ self.old }
     {
         let Verdict::Open = self.last.verdict else {

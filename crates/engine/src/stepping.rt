@@ -1,5 +1,6 @@
 // What a search reads from its store: the truth of its functions, and one step of its circuit.
-// That the store then shows the same stays a clause of each: a struct that lent the store would have each method say, too, that it keeps the reference.
+// That the store then shows the same stays a clause of each: a struct that lent the store would have each method say,
+// too, that it keeps the reference.
 ghost use Rattle.std.specs.Prelude.{◌≡◌};
 ghost use Rattle.making.specs.Loads.{registers_of};
 ghost use Rattle.engine.specs.Questions.{Tells, GoesTo, Leads, Faults, Begins};
@@ -20,7 +21,13 @@ impl Search {
         step: Step,
     ) -> Result<bool, Unmade>
         ensures same { S.Store.shows store.new ≡ S.Store.shows store.old }
-        ensures tells { Tells (S.Store.shows store.old) (registers_of self.now.parts) function step.state step.input result }
+        ensures tells { Tells
+            (S.Store.shows store.old)
+            (registers_of self.now.parts)
+            function
+            step.state
+            step.input
+            result }
     {
         let value = store.value(function, step.valuation(self.parts.registers()));
         place_at(value, Part::Call, 0)

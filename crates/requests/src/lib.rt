@@ -29,7 +29,11 @@ pub fn serve<S: Store>(store: S, exchanges: &mut [Exchange<'_>]) -> S
 }
 
 fn answer_all<S: Store>(session: &mut Session<S>, exchanges: &mut [Exchange<'_>])
-    ensures { AllAnswered (world S.Store.shows session.old) exchanges.old exchanges.new (world S.Store.shows session.new) }
+    ensures { AllAnswered
+        (world S.Store.shows session.old)
+        exchanges.old
+        exchanges.new
+        (world S.Store.shows session.new) }
 {
     for exchange in exchanges.iter_mut() {
         exchange.reply = answer(session, &mut exchange.request);
@@ -38,7 +42,12 @@ fn answer_all<S: Store>(session: &mut Session<S>, exchanges: &mut [Exchange<'_>]
 
 // Makes one request. The arrays of a trace are filled in place.
 fn answer<S: Store>(session: &mut Session<S>, request: &mut Request<'_>) -> Reply
-    ensures { Answers (world S.Store.shows session.old) request.old request.new result (world S.Store.shows session.new) }
+    ensures { Answers
+        (world S.Store.shows session.old)
+        request.old
+        request.new
+        result
+        (world S.Store.shows session.new) }
 {
     match request {
         Request::Load(source) => Reply::Load(session.load(*source)),
