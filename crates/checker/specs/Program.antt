@@ -7,7 +7,7 @@ use Rattle.nodes.specs.Shows.{shown}
 use Rattle.job.specs.declared.fault.Fault.{Fault as Unframed}
 use Rattle.description.specs.declared.fault.Fault.{Fault as Misdescription}
 use Rattle.uses.specs.declared.fault.Fault.TheVariants.{Description}
-use Rattle.decide.specs.Reports.{Reports, Only, Accepted, Broken}
+use Rattle.decide.specs.Reports.{Reports, Only, Full, Accepted, Broken}
 use Rattle.decide.specs.Texts.{text}
 use Rattle.decide.specs.declared.fault.Fault.TheVariants.{Frame, Call}
 use Rattle.decide.specs.declared.report.Report.{Report}
@@ -26,6 +26,7 @@ pub record Right (bs : List ℕ) (r : Report) : Type 0 where
   pub nodes : List Node
   pub reports : Reports start bs r (with_nodes nodes)
   pub only : Only start bs r (with_nodes nodes)
+  pub full : Full start bs r (with_nodes nodes)
   pub accepted : Accepted start bs r
   pub broken : Broken start bs r
 
