@@ -1,3 +1,4 @@
+pub mod Lists
 pub mod Literals
 pub mod Netlists
 pub mod Lines

@@ -8,7 +8,7 @@ use super::sizes::Sizes;
 use super::sort::Sort;
 
 // A netlist that passed every check of its file.
-#[derive(Drop)]
+#[derive(Clone, Copy)]
 pub struct Circuit {
     pub(crate) netlist: Netlist,
     ghost sound: { ∥ Sound netlist ∥₁ },

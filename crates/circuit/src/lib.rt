@@ -11,6 +11,7 @@ ghost use Rattle.circuit.specs.Steps.{Sized};
 
 pub mod circuit;
 pub mod gate;
+mod gates;
 pub mod literal;
 mod netlist;
 pub mod refusal;

@@ -8,6 +8,7 @@ ghost use Rattle.circuit.specs.Rules.{Wired, Sound, first_miswired, checking};
 ghost use Rattle.circuit.specs.Steps.{InRange, Sized};
 
 use super::gate::Gate;
+use super::gates::Gates;
 use super::literal::Literal;
 use super::refusal::Refusal;
 use super::sizes::Sizes;
@@ -17,11 +18,11 @@ use arrayvec::ArrayVec;
 use std::marker::Model;
 
 // What a file says, before it is known to be a circuit.
-#[derive(Drop)]
+#[derive(Clone, Copy)]
 pub(crate) struct Netlist {
     pub(crate) registers: u8,
     pub(crate) inputs: u8,
-    pub(crate) gates: ArrayVec<Gate, MOST_GATES>,
+    pub(crate) gates: Gates,
 }
 
 impl Model for Netlist {
@@ -30,6 +31,12 @@ impl Model for Netlist {
     ghost Value = { Said };
 
     ghost view = { λ n. record { registers = n.registers; inputs = n.inputs; gates = n.gates.items } };
+
+    ghost inverse = { λ n. record {
+        registers = n.registers;
+        inputs = n.inputs;
+        gates = record { items = n.gates };
+    } };
 }
 
 impl Netlist {
@@ -43,12 +50,12 @@ impl Netlist {
             left: Literal::from(number_at(file, 3 + g)),
             right: Literal::from(number_at(file, 3 + count + g)),
         });
-        let mut gates = ArrayVec::new();
+        let mut gates = ArrayVec::<Gate, MOST_GATES>::new();
         gates.extend(read).unwrap();
         Netlist {
             registers: sizes.registers as u8,
             inputs: sizes.inputs as u8,
-            gates,
+            gates: Gates::of(gates.as_slice()),
         }
     }
 
