@@ -1,4 +1,3 @@
-pub mod Places
 pub mod Numbers
 pub mod Extending
 pub mod Lines

@@ -1,4 +1,3 @@
-pub mod Lists
 pub mod Literals
 pub mod Netlists
 pub mod Lines

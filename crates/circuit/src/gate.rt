@@ -2,12 +2,24 @@ ghost use Rattle.std.specs.Prelude.{◌≡◌, ◌&&◌, false, nat_lt, slice_in
 ghost use Rattle.circuit.specs.Lines.{either};
 
 use super::literal::Literal;
+use copy_list::Blank;
 
 // The and of two literals.
 #[derive(Clone, Copy, Default, PartialEq, Eq, Debug)]
 pub struct Gate {
     pub left: Literal,
     pub right: Literal,
+}
+
+// By hand, since a clause says which it is, and of a default the library says less.
+impl Blank for Gate {
+    ghost use Rattle.circuit.specs.Netlists.{blank};
+
+    ghost blank = { blank };
+
+    fn blank() -> Gate {
+        Gate::default()
+    }
 }
 
 impl Gate {

@@ -11,7 +11,6 @@ ghost use Rattle.circuit.specs.Steps.{Sized};
 
 pub mod circuit;
 pub mod gate;
-mod gates;
 pub mod literal;
 mod netlist;
 pub mod refusal;

@@ -8,13 +8,13 @@ ghost use Rattle.circuit.specs.Rules.{Wired, Sound, first_miswired, checking};
 ghost use Rattle.circuit.specs.Steps.{InRange, Sized};
 
 use super::gate::Gate;
-use super::gates::Gates;
 use super::literal::Literal;
 use super::refusal::Refusal;
 use super::sizes::Sizes;
 use super::sort::Sort;
 use super::{MOST_GATES, MOST_LINES, number_at};
 use arrayvec::ArrayVec;
+use copy_list::CopyList;
 use std::marker::Model;
 
 // What a file says, before it is known to be a circuit.
@@ -22,7 +22,7 @@ use std::marker::Model;
 pub(crate) struct Netlist {
     pub(crate) registers: u8,
     pub(crate) inputs: u8,
-    pub(crate) gates: Gates,
+    pub(crate) gates: CopyList<Gate, MOST_GATES>,
 }
 
 impl Model for Netlist {
@@ -33,9 +33,9 @@ impl Model for Netlist {
     ghost view = { λ n. record { registers = n.registers; inputs = n.inputs; gates = n.gates.items } };
 
     ghost inverse = { λ n. record {
-        registers = n.registers;
-        inputs = n.inputs;
-        gates = record { items = n.gates };
+      registers = n.registers;
+      inputs = n.inputs;
+      gates = record { items = n.gates };
     } };
 }
 
@@ -55,7 +55,7 @@ impl Netlist {
         Netlist {
             registers: sizes.registers as u8,
             inputs: sizes.inputs as u8,
-            gates: Gates::of(gates.as_slice()),
+            gates: CopyList::of(gates.as_slice()).unwrap(),
         }
     }
 
