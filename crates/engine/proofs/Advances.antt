@@ -3,7 +3,7 @@ use Rattle.std.proofs.Common.{◌≡◌, ℕ, suc, ◌<◌, ◌≤◌, ◌+◌, 
 use Rattle.std.proofs.Math.Seq.{get_or-append_seam}
 use Rattle.std.proofs.lemmas.List.{get_or_append_left, length-append}
 use Rattle.store.specs.Meaning.{Shown, Grown, Lawful}
-use Rattle.making.specs.declared.fault.Fault.{Fault as Unmade}
+use Rattle.making.specs.Faults.{Fault as Unmade}
 use Rattle.making.specs.Ends.{Ends, made, stuck, located}
 use Rattle.making.specs.Loads.{registers_of, advance_list}
 use Rattle.making.specs.Making.{Means}

@@ -4,7 +4,7 @@ use Rattle.std.proofs.lemmas.Nat.{shr-shr}
 use mir.Val.{bool_byte}
 use Rattle.store.proofs.Bit.{bit_shift}
 use Rattle.store.specs.Fun.{bit}
-use Rattle.making.specs.declared.fault.Fault.{Fault}
+use Rattle.making.specs.Faults.{Fault}
 
 pub one : (b : Bool) → bool_byte b < 2
 one true = omega arith

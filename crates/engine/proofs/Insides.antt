@@ -1,6 +1,6 @@
 -- The question whether a state is inside.
 use Rattle.std.proofs.Common.{◌≡◌, ℕ, ◌^◌, ◌<◌, ◌≤◌, Bool, not, Some, Ok, Err, Result, sym, ap, ◌∙◌, subst}
-use Rattle.making.specs.declared.fault.Fault.{Fault as Unmade}
+use Rattle.making.specs.Faults.{Fault as Unmade}
 use Rattle.making.specs.Loads.{registers_of}
 use Rattle.runs.specs.Models.{Model, system}
 use Rattle.runs.specs.Search.{bad, safe}

@@ -11,7 +11,7 @@ use Rattle.description.specs.Checks.{Checked, right}
 use Rattle.description.specs.Results.{circuit_of, assumption_of, property_of, Understood}
 use Rattle.description.specs.declared.described.Described.{Described}
 use Rattle.description.specs.declared.fault.Fault.{Fault as Misdescription}
-use Rattle.making.specs.declared.fault.Fault.{Fault as Unmade}
+use Rattle.making.specs.Faults.{Fault as Unmade}
 use Rattle.making.specs.declared.parts.Built.{Built}
 use Rattle.making.specs.declared.parts.Parts.{Parts}
 use Rattle.making.specs.Ends.{Ends, made, stuck, located}

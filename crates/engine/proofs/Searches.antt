@@ -1,6 +1,6 @@
 -- A search from 0 on, one test after the other.
 use Rattle.std.proofs.Common.{◌≡◌, ℕ, ◌+◌, ◌<◌, Bool, true, false, Ok, Result, below_more}
-use Rattle.making.specs.declared.fault.Fault.{Fault}
+use Rattle.making.specs.Faults.{Fault}
 use Rattle.runs.specs.Search.{Least}
 
 module _ (f : ℕ → Bool) (x : ℕ) (a : Bool) (told : ◌≡◌ {A = Result Bool Fault} (Ok a) (Ok (f x))) (before : (y : ℕ) → y < x → f y ≡ false) where

@@ -8,7 +8,7 @@ use Rattle.store.specs.Meaning.{Shown, Lawful, Grown}
 use Rattle.store.proofs.Same.{decides_same}
 use Rattle.description.specs.declared.part.Part.{Part}
 use Rattle.description.specs.declared.part.Part.TheVariants.{Sets}
-use Rattle.making.specs.declared.fault.Fault.{Fault}
+use Rattle.making.specs.Faults.{Fault}
 use Rattle.making.specs.Ends.{Ends, made, plain, located}
 use Rattle.making.specs.Making.{Item, at, Runs, ended, Means}
 use Rattle.making.specs.Pieces.{composed_list, composed_all_list, halves_list, quantified_list}

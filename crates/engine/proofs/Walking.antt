@@ -5,7 +5,7 @@ use Rattle.std.proofs.lemmas.Bool.{both_ways}
 use Rattle.std.specs.Borrow.{MutBor}
 use Rattle.store.specs.Fun.{some}
 use Rattle.store.specs.Meaning.{Shown}
-use Rattle.making.specs.declared.fault.Fault.{Fault}
+use Rattle.making.specs.Faults.{Fault}
 use Rattle.making.specs.Making.{Means}
 use Rattle.making.specs.Loads.{registers_of}
 use Rattle.runs.specs.Models.{Model, system}

@@ -1,7 +1,7 @@
 -- One advance of a search.
 use Rattle.std.specs.Prelude.{◌≡◌, ℕ, suc, Result}
 use Rattle.store.specs.Meaning.{Shown, Lawful}
-use Rattle.making.specs.declared.fault.Fault.{Fault as Unmade}
+use Rattle.making.specs.Faults.{Fault as Unmade}
 use Rattle.making.specs.Making.{Means}
 use Rattle.making.specs.Loads.{registers_of, Kept, advance_list}
 use Rattle.making.specs.Ends.{Ends, located}

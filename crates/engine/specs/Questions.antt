@@ -5,7 +5,7 @@ use Rattle.arrayvec.specs.ArrayVec.{array_vec_len}
 use Rattle.std.specs.Borrow.{MutBor}
 use Rattle.store.specs.Fun.{Fn}
 use Rattle.store.specs.Meaning.{Shown}
-use Rattle.making.specs.declared.fault.Fault.{Fault as Unmade}
+use Rattle.making.specs.Faults.{Fault as Unmade}
 use Rattle.making.specs.declared.parts.Parts.{Parts}
 use Rattle.making.specs.Making.{Means}
 use Rattle.making.specs.Loads.{registers_of, Kept}

@@ -10,7 +10,7 @@ use Rattle.description.specs.declared.part.Part.TheVariants.{Assumption, Propert
 use Rattle.description.specs.Stated.{Stated}
 use Rattle.runs.specs.Functions.{copy}
 use Rattle.runs.specs.Valuations.{line_fn, claim_fn, next_fn, init_fn}
-use Rattle.making.specs.declared.fault.Fault.{Fault}
+use Rattle.making.specs.Faults.{Fault}
 use Rattle.making.specs.declared.lines.Lines.{Lines}
 use Rattle.making.specs.declared.parts.Built.{Built}
 use Rattle.making.specs.Models.{model, alone, width}

@@ -6,7 +6,7 @@ use Rattle.store.specs.Fun.{Fn}
 use Rattle.store.specs.Meaning.{Shown, free}
 use Rattle.description.specs.declared.part.Part.{Part}
 use Rattle.description.specs.declared.part.Part.TheVariants.{Circuit}
-use Rattle.making.specs.declared.fault.Fault.{Fault}
+use Rattle.making.specs.Faults.{Fault}
 use Rattle.making.specs.declared.fault.Fault.TheVariants as fault
 use Rattle.making.specs.Making.{Item, at, upto, Runs, Stops, here, later}
 use Rattle.making.specs.Ends.{Ends, made, stuck, plain, located, Lacks, lacked, filled, placed, placing}

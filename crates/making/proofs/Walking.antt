@@ -6,7 +6,7 @@ use Rattle.store.specs.Meaning.{Shown, Lawful}
 use Rattle.claim.specs.declared.code.Code.{Code}
 use Rattle.claim.specs.Grammar.{Tree, const, named, neg, conj, disj, post, Known}
 use Rattle.description.specs.declared.part.Part.{Part}
-use Rattle.making.specs.declared.fault.Fault.{Fault}
+use Rattle.making.specs.Faults.{Fault}
 use Rattle.runs.specs.Valuations.{claim_fn}
 use Rattle.runs.specs.Models.{Model, sizes}
 use Rattle.making.specs.Making.{Item, at, Runs, ended, Means}

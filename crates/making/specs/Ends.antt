@@ -4,9 +4,9 @@ use Rattle.store.specs.declared.refusal.Refusal.{Refusal}
 use Rattle.store.specs.declared.refusal.Refusal.TheVariants as refusal
 use Rattle.store.specs.Fun.{Fn}
 use Rattle.store.specs.Meaning.{Shown, Lawful, free}
-use Rattle.description.specs.declared.part.Part.{Part}
-use Rattle.making.specs.declared.fault.Fault.{Fault}
+use Rattle.making.specs.declared.fault.Fault.{Fault as At}
 use Rattle.making.specs.declared.fault.Fault.TheVariants as fault
+use Rattle.making.specs.Faults.{Fault}
 use Rattle.making.specs.Making.{Item, Runs, Stops, Means}
 use Rattle.making.specs.Pieces.{variables_list}
 
@@ -38,11 +38,11 @@ pub record ByWidth {X E : Type 0} (room : Item → ℕ → E) (no_variable : E) 
   pub narrow : s.vars < n → Lacks room no_variable s t r
 
 -- a refusal gains its part and place
-abbrev pub placing : Part → ℕ → Refusal → Fault
+abbrev pub placing : {P : Type 0} → P → ℕ → Refusal → At P
 placing p l refusal.Number = fault.Number
 placing p l refusal.Variable = fault.Variable
 placing p l (refusal.Room u) = fault.Room p l u
 
-abbrev pub placed : {X : Type 0} → Part → ℕ → Result X Refusal → Result X Fault
+abbrev pub placed : {X P : Type 0} → P → ℕ → Result X Refusal → Result X (At P)
 placed p l (Ok x) = Ok x
 placed p l (Err e) = Err (placing p l e)

@@ -3,8 +3,12 @@ use Rattle.std.specs.Prelude.{ℕ}
 use Rattle.description.specs.declared.part.Part.{Part}
 use Rattle.description.specs.declared.part.Part.TheVariants.{Call}
 use Rattle.description.specs.declared.notice.Notice.{Notice}
-use Rattle.making.specs.declared.fault.Fault.{Fault}
+use Rattle.making.specs.declared.fault.Fault.{Fault as At}
 use Rattle.making.specs.declared.fault.Fault.TheVariants.{Room, Number, Variable}
+
+-- of the builder's own calls, each of which has a part
+abbrev pub Fault : Type 0
+Fault = At Part
 
 abbrev pub number_of : Fault → ℕ
 number_of (Room p l u) = 10

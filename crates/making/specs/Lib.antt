@@ -2,9 +2,9 @@ pub mod Models
 pub mod Making
 pub mod Pieces
 pub mod Loads
+pub mod Faults
 pub mod Ends
 pub mod Stacks
 pub mod Promises
-pub mod Faults
 pub mod Bounds
 pub mod Laws

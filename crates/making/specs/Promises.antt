@@ -13,7 +13,7 @@ use Rattle.claim.specs.declared.code.Act.{Act}
 use Rattle.claim.specs.declared.code.Code.{Code}
 use Rattle.claim.specs.Grammar.{Tree, post, Known}
 use Rattle.description.specs.declared.part.Part.{Part}
-use Rattle.making.specs.declared.fault.Fault.{Fault}
+use Rattle.making.specs.Faults.{Fault}
 use Rattle.making.specs.declared.fault.Fault.TheVariants as fault
 use Rattle.making.specs.declared.lines.Lines.{Lines}
 use Rattle.making.specs.declared.parts.Polarities.{Polarities}

@@ -10,18 +10,18 @@ use store::refusal::Refusal;
 /// Why a making call of the builder was refused: what the store answered, with the part and the place of a call that found no room.
 // No `Refusal` in one case, since a refusal for room has a part and a place, and the others have none.
 #[derive(Clone, Copy, PartialEq, Eq, Debug)]
-pub enum Fault {
+pub enum Fault<P = Part> {
     /// The store has no room for the call's result, with so many units free.
-    Room { part: Part, place: u16, free: u32 },
+    Room { part: P, place: u16, free: u32 },
     /// A function number is not held.
     Number,
     /// A variable is out of range.
     Variable,
 }
 
-impl Fault {
+impl<P: Copy> Fault<P> {
     // A refusal of the store, with the part and the place of its call.
-    pub(crate) fn at(refusal: Refusal, part: Part, place: u16) -> Fault
+    pub(crate) fn at(refusal: Refusal, part: P, place: u16) -> Fault<P>
         ensures { result ≡ placing part place refusal }
     {
         match refusal {
@@ -30,7 +30,9 @@ impl Fault {
             Refusal::Variable => Fault::Variable,
         }
     }
+}
 
+impl Fault {
     /// The number, the part and the place of the refusal.
     // The numbers are written out, since `as` takes no enum that holds values.
     pub fn notice(self) -> Notice

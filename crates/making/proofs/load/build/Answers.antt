@@ -9,7 +9,7 @@ use Rattle.description.specs.declared.described.Described.{Described}
 use Rattle.description.specs.declared.part.Part.{Part}
 use Rattle.description.specs.declared.part.Part.TheVariants.{Assumption, Property}
 use Rattle.description.specs.Results.{circuit_of, assumption_of, property_of}
-use Rattle.making.specs.declared.fault.Fault.{Fault}
+use Rattle.making.specs.Faults.{Fault}
 use Rattle.making.specs.declared.lines.Lines.{Lines}
 use Rattle.making.specs.declared.parts.Built.{Built}
 use Rattle.making.specs.Models.{alone}

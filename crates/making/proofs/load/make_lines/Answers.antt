@@ -6,7 +6,7 @@ use Rattle.circuit.specs.Reading.{netlist}
 use Rattle.description.specs.declared.part.Part.TheVariants.{Circuit}
 use Rattle.runs.specs.Functions.{copy}
 use Rattle.runs.specs.Valuations.{line_fn}
-use Rattle.making.specs.declared.fault.Fault.{Fault}
+use Rattle.making.specs.Faults.{Fault}
 use Rattle.making.specs.declared.lines.Lines.{Lines}
 use Rattle.runs.specs.Models.{Model}
 use Rattle.making.specs.Models.{alone, width}

@@ -12,7 +12,7 @@ use Rattle.engine.proofs.search.Search.next_state.Goals as goal
 use Rattle.engine.proofs.search.Search.next_state.Goals.{In-Some}
 use Rattle.engine.specs.Questions.{Tells, Readable}
 use Rattle.runs.specs.Systems.{State, Input}
-use Rattle.making.specs.declared.fault.Fault.{Fault}
+use Rattle.making.specs.Faults.{Fault}
 use Rattle.making.specs.Making.{unpaired}
 use Rattle.making.specs.Loads.{registers_of}
 use Rattle.std.proofs.Common.{Result, Bool, Ok}

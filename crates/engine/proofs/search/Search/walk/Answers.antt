@@ -2,7 +2,7 @@ use Rattle.std.proofs.Common.{rules, ◌≡◌, ℕ, ◌+◌, ◌-◌, ◌^◌, 
 use Rattle.std.proofs.lemmas.List.{length-set}
 use Rattle.arrayvec.specs.ArrayVec.{array_vec_len}
 use Rattle.making.specs.Making.{Means}
-use Rattle.making.specs.declared.fault.Fault.{Fault}
+use Rattle.making.specs.Faults.{Fault}
 use Rattle.runs.specs.Models.{Model, system}
 use Rattle.runs.specs.Search.{initial_in, bad, leads_into, faulty, unsafe, verdict, Reached, TraceTo}
 use Rattle.runs.specs.Systems.{State}
