@@ -15,3 +15,4 @@ mod Refusals
 pub mod Exactly
 pub mod Steps
 mod Whole
+pub mod Stacks

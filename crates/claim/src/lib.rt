@@ -1,13 +1,15 @@
 // Claims about a circuit: one or more terms joined by `|`, each one or more factors joined by `&`.
 #![tactic(auto)]
 
-ghost use Rattle.std.specs.Prelude.{◌≡◌, MatchResult, IsOkAnd};
+ghost use Rattle.std.specs.Prelude.{◌≡◌, ℕ, Bool, [], ◌∷◌, MatchResult, IsOkAnd};
+ghost use Rattle.circuit.specs.declared.sort.Sort.{Sort};
 ghost use Rattle.claim.specs.Grammar.{Tree, post};
 ghost use Rattle.claim.specs.Faults.{Read, Refused};
 ghost use Rattle.claim.specs.Exact.{Exact};
 ghost use Rattle.claim.specs.Decimals.{Decimals};
 ghost use Rattle.claim.specs.Examples.{Examples};
 ghost use Rattle.claim.specs.Result.{used, Reads};
+ghost use Rattle.claim.specs.Truth.{logic, truth, exec, stack};
 
 pub mod code;
 pub mod codes;
@@ -52,4 +54,9 @@ pub fn numbers_are_spelled_once()
 // How short texts come out.
 pub fn examples()
     ensures { Examples }
+{}
+
+// The codes of a claim, run over a stack, leave its truth alone there.
+pub fn codes_run_to_the_truth()
+    ensures { (v : Sort → ℕ → Bool) (t : Tree) → exec (logic v) (post t) (stack []) ≡ stack (truth v t ∷ []) }
 {}
