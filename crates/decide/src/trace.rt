@@ -1,13 +1,13 @@
 ghost use Rattle.std.specs.Prelude.{◌≡◌, ◌-◌, ◌<◌, ◌≤◌, length, map};
 
-use arrayvec::ArrayVec;
+use copy_list::CopyList;
 use engine::search::MOST_STEPS;
 use engine::step::Step;
 
 // A run by its steps, from step 0 on.
-#[derive(Drop)]
+#[derive(Clone, Copy)]
 pub struct Trace {
-    pub steps: ArrayVec<Step, MOST_STEPS>,
+    pub steps: CopyList<Step, MOST_STEPS>,
     ghost begun: { 0 < length steps.items },
 }
 
@@ -20,9 +20,9 @@ impl Trace {
         ensures states { map (λ s. s.state) result.steps.items ≡ states.now }
         ensures inputs { map (λ s. s.input) result.steps.items ≡ inputs.now }
     {
-        let mut steps = ArrayVec::new();
+        let mut steps = CopyList::new();
         for (&state, &input) in states.iter().zip(inputs) {
-            steps.push(Step { state, input });
+            steps.push(Step { state, input }).unwrap();
         }
         Trace { steps }
     }

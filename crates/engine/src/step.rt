@@ -3,10 +3,21 @@ ghost use Rattle.std.specs.Prelude.{◌≡◌, ◌*◌, ◌^◌, ◌<◌, ◌≤
 ghost use Rattle.circuit.specs.declared.TheConstants.{MOST_REGISTERS};
 ghost use Rattle.runs.specs.Functions.{spread};
 
+use copy_list::Blank;
+
 #[derive(Clone, Copy, Default, PartialEq, Eq, Debug)]
 pub struct Step {
     pub state: u16,
     pub input: u16,
+}
+
+// By hand, since a clause says which it is, and of a default the library says less.
+impl Blank for Step {
+    ghost blank = { record { state = 0; input = 0 } };
+
+    fn blank() -> Step {
+        Step::default()
+    }
 }
 
 impl Step {

@@ -19,4 +19,4 @@ returns-clause-writes g c p o =
     let xs = c.as_slice-step-items.result.now in
     let e : c.loop-t.t-counter ≡ length xs = omega arith in
     let f = subst (λ n. HasWritten g.W.Write.write_str_gives c.args.f.now (steps_before n (λ i. (get_or xs i none).state) (λ i. (get_or xs i none).input)) c.loop-t.f) e (c.loop-t.invariant p) in
-    subst (λ xs. HasWritten g.W.Write.write_str_gives c.args.f.now (steps_before (length xs) (λ i. (get_or xs i none).state) (λ i. (get_or xs i none).input)) c.loop-t.f) c.as_slice-step-items.ensures.value f
+    subst (λ xs. HasWritten g.W.Write.write_str_gives c.args.f.now (steps_before (length xs) (λ i. (get_or xs i none).state) (λ i. (get_or xs i none).input)) c.loop-t.f) c.as_slice-step-items.ensures.items f
