@@ -14,6 +14,14 @@ pub trait Blank: Copy {
         ensures { result ≡ blank };
 }
 
+impl Blank for u16 {
+    ghost blank = { 0 };
+
+    fn blank() -> u16 {
+        0
+    }
+}
+
 /// A list has as many entries as it can hold.
 #[derive(Clone, Copy, PartialEq, Eq, Debug)]
 pub struct Full;
