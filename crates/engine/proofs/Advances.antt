@@ -21,7 +21,6 @@ use Rattle.uses.specs.declared.verdict.Verdict.TheVariants as verdict
 use Rattle.uses.specs.Calls.{loaded, tell, advance, stand}
 use Rattle.uses.specs.Uses.{Step, advance_settled, advance_full, advances}
 use Rattle.uses.proofs.Told.{tell_open}
-use Rattle.arrayvec.specs.ArrayVec.{array_vec_len}
 use Rattle.engine.specs.declared.stage.Stage.{Stage}
 use Rattle.engine.specs.declared.search.Search.{Search}
 use Rattle.engine.specs.Advancing.{Reaches, Advances}
@@ -48,7 +47,7 @@ module _ (w : World) (k : Search) (e : w.search ≡ Some k) where
   pub when_settled : (k.last.verdict ≡ verdict.Open → ⊥) → Next w (advance (Err fault.Settled)) w
   when_settled o = stays_some w _ k e (λ m j r h. advance_settled (λ v. o (h.verdict ∙ ap tell v)))
 
-  pub when_many : 256 ≤ array_vec_len k.earlier → Next w (advance (Err fault.Settled)) w
+  pub when_many : 256 ≤ length k.earlier.items → Next w (advance (Err fault.Settled)) w
   when_many l = stays_some w _ k e (λ m j r h. advance_settled (λ v.
       let f = ((verdicts (system m) (functions_exact m h.valid).stepped.closed j r).openly v).few in
       let p = pow_mono {i = m.circuit.registers} {j = 8} h.valid.circuit.few_registers in

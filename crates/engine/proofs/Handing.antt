@@ -12,7 +12,6 @@ use Rattle.uses.specs.declared.verdict.Verdict.TheVariants as verdict
 use Rattle.uses.specs.Calls.{loaded, tell, trace, stand, written}
 use Rattle.uses.specs.Uses.{Step, trace_verdict, trace_short, traces}
 use Rattle.uses.proofs.Told.{never, tell_unsafe}
-use Rattle.arrayvec.specs.ArrayVec.{array_vec_len}
 use Rattle.engine.specs.declared.search.Search.{Search}
 use Rattle.engine.specs.Keeping.{World, Sets, Next}
 use Rattle.engine.specs.Questions.{Spares, Walks}
@@ -43,21 +42,21 @@ module _ (w : World) (k : Search) (e : w.search ≡ Some k) (x y : List ℕ) whe
     unsafe_here : (m : Model) (j : ℕ) → Sets m j w.store k → search.verdict (system m) j ≡ unsafe j
     unsafe_here m j h = depth_is (system m) j d (tell_unsafe (search.verdict (system m) j) d (sym h.verdict ∙ o))
 
-    entries : (m : Model) (j : ℕ) → Sets m j w.store k → array_vec_len k.earlier + 1 ≡ suc j
-    entries m j h = add-one (array_vec_len k.earlier) ∙ ap suc h.count
+    entries : (m : Model) (j : ℕ) → Sets m j w.store k → length k.earlier.items + 1 ≡ suc j
+    entries m j h = add-one (length k.earlier.items) ∙ ap suc h.count
 
-    pub when_short : (array_vec_len k.earlier + 1 ≤ length x → array_vec_len k.earlier + 1 ≤ length y → ⊥) → Next w (trace x y x y (Err (fault.Short (array_vec_len k.earlier + 1)))) w
+    pub when_short : (length k.earlier.items + 1 ≤ length x → length k.earlier.items + 1 ≤ length y → ⊥) → Next w (trace x y x y (Err (fault.Short (length k.earlier.items + 1)))) w
     when_short l = stays_some w _ k e (λ m j r h.
         let z = stand (loaded m j) w.store in
         subst (λ n. Step z (trace x y x y (Err (fault.Short n))) z) (sym (entries m j h))
         (trace_short (unsafe_here m j h) (subst (λ n. n ≤ length x → n ≤ length y → ⊥) (entries m j h) l)))
 
-    pub when_walked : (r : Result (Unit {0}) Fault) (x' y' : List ℕ) → Walks w.store k r x' y' → Spares (array_vec_len k.earlier) x y x' y'
-        → array_vec_len k.earlier + 1 ≤ length x → array_vec_len k.earlier + 1 ≤ length y → Next w (trace x y x' y' r) w
+    pub when_walked : (r : Result (Unit {0}) Fault) (x' y' : List ℕ) → Walks w.store k r x' y' → Spares (length k.earlier.items) x y x' y'
+        → length k.earlier.items + 1 ≤ length x → length k.earlier.items + 1 ≤ length y → Next w (trace x y x' y' r) w
     when_walked r x' y' t p lx ly = stays_some w _ k e (λ m j c h.
         let z = stand (loaded m j) w.store in
         let q = t m j h c (unsafe_here m j h) in
-        let n : suc j ≡ suc (array_vec_len k.earlier) = ap suc (sym h.count) in
+        let n : suc j ≡ suc (length k.earlier.items) = ap suc (sym h.count) in
         let bx : suc j ≤ length x = omega (arith, h.count, lx) in
         let by : suc j ≤ length y = omega (arith, h.count, ly) in
         let a : written (suc j) (at x') x ≡ x' = written_here (suc j) x x' bx p.states_long (subst (λ i. drop i x' ≡ drop i x) (sym n) p.states_after) in

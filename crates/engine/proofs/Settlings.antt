@@ -1,5 +1,5 @@
 -- Advances up to a settled verdict.
-use Rattle.std.proofs.Common.{◌≡◌, ℕ, suc, ◌<◌, ◌≤◌, ◌^◌, List, [], ◌∷◌, ◌++◌, Option, None, Some, MatchOption, MatchResult, Result, Ok, Err, sym, refl, ap, ◌∙◌, subst, arith, pow_mono}
+use Rattle.std.proofs.Common.{◌≡◌, ℕ, suc, ◌<◌, ◌≤◌, ◌^◌, List, [], ◌∷◌, ◌++◌, length, Option, None, Some, MatchOption, MatchResult, Result, Ok, Err, sym, refl, ap, ◌∙◌, subst, arith, pow_mono}
 use Rattle.store.specs.Meaning.{Shown}
 use Rattle.uses.specs.declared.fault.Fault.{Fault}
 use Rattle.uses.specs.declared.fault.Fault.TheVariants.{Empty}
@@ -13,7 +13,6 @@ use Rattle.uses.specs.Uses.{Step, advance_empty, advance_settled, advance_full, 
 use Rattle.uses.proofs.Told.{never, tell_unsafe}
 use Rattle.runs.proofs.Models.{closed}
 use Rattle.uses.proofs.Uses.{come}
-use Rattle.arrayvec.specs.ArrayVec.{array_vec_len}
 use Rattle.engine.specs.declared.search.Search.{Search}
 use Rattle.engine.specs.declared.settled.Settled.{Settled}
 use Rattle.engine.specs.Keeping.{World, Sets, Keeps, Next}
@@ -26,7 +25,7 @@ pub last_step : {start : Shown} {before after now : Stand} {call : Call} {histor
 last_step (went_on u s) = s
 
 -- the depth that is told is the count of the advances
-pub is_unsafe : (k : Search) (n d : ℕ) → n ≡ array_vec_len k.earlier → k.last.verdict ≡ answer.Unsafe d → (state : State) (s : Shown)
+pub is_unsafe : (k : Search) (n d : ℕ) → n ≡ length k.earlier.items → k.last.verdict ≡ answer.Unsafe d → (state : State) (s : Shown)
     → Keeps state (record { store = s; search = Some k }) → (m : Model) × (state ≡ loaded m n) × (verdict (system m) n ≡ unsafe n)
 is_unsafe k n d e o empty s h = never (cc)
 is_unsafe k n d e o (loaded m j) s h =

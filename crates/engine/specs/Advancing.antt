@@ -1,5 +1,5 @@
 -- One advance of a search.
-use Rattle.std.specs.Prelude.{◌≡◌, ℕ, suc, Result}
+use Rattle.std.specs.Prelude.{◌≡◌, ℕ, suc, length, Result}
 use Rattle.store.specs.Meaning.{Shown, Lawful}
 use Rattle.making.specs.Faults.{Fault as Unmade}
 use Rattle.making.specs.Making.{Means}
@@ -11,7 +11,6 @@ use Rattle.runs.specs.Valuations.{claim_fn, next_fn, init_fn, set_fn}
 use Rattle.uses.specs.Calls.{loaded, told}
 use Rattle.engine.specs.declared.stage.Stage.{Stage}
 use Rattle.engine.specs.declared.search.Search.{Search}
-use Rattle.arrayvec.specs.ArrayVec.{array_vec_len}
 
 -- the numbers at hand are those of B_j, of Init and of the circuit, and the verdict is open
 pub record Ready (s : Shown) (m : Model) (j : ℕ) (k : Search) : Type 0 where
@@ -20,7 +19,7 @@ pub record Ready (s : Shown) (m : Model) (j : ℕ) (k : Search) : Type 0 where
   pub inputs : k.parts.m ≡ m.circuit.inputs
   pub parts : Kept s k.parts (next_fn m) (claim_fn m m.assumption)
   pub init : Means s k.parts.init (init_fn m)
-  pub count : array_vec_len k.earlier ≡ j
+  pub count : length k.earlier.items ≡ j
   pub set : Means s k.last.set (set_fn m j)
   pub reached : Reached (system m) j
   pub undecided : verdict (system m) j ≡ open_yet

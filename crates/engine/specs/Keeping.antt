@@ -1,6 +1,5 @@
 -- What the session's own numbers stand for.
-use Rattle.std.specs.Prelude.{◌≡◌, ℕ, ◌<◌, List, ◌∷◌, Option, Some, None, MatchOption, slice_index}
-use Rattle.arrayvec.specs.ArrayVec.{array_vec_len}
+use Rattle.std.specs.Prelude.{◌≡◌, ℕ, ◌<◌, List, ◌∷◌, Option, Some, None, MatchOption, length, slice_index}
 use Rattle.store.specs.Meaning.{Shown, Lawful}
 use Rattle.making.specs.Making.{Means}
 use Rattle.making.specs.Loads.{registers_of, Kept}
@@ -29,7 +28,7 @@ pub record Sets (m : Model) (j : ℕ) (s : Shown) (k : Search) : Type 0 where
   pub lawful : Lawful s
   pub registers : registers_of k.parts ≡ m.circuit.registers
   pub inputs : k.parts.m ≡ m.circuit.inputs
-  pub count : array_vec_len k.earlier ≡ j
+  pub count : length k.earlier.items ≡ j
   pub verdict : k.last.verdict ≡ told (loaded m j)
   pub parts : Kept s k.parts (next_fn m) (claim_fn m m.assumption)
   pub property : Means s k.parts.property (claim_fn m m.property)

@@ -1,7 +1,6 @@
 -- What the questions of a session promise one another: s is what the store shows.
 use Rattle.std.specs.Prelude.{◌≡◌, ℕ, suc, ◌*◌, ◌+◌, ◌^◌, ◌<◌, ◌≤◌, Bool, false, List, length, drop, slice_index}
 use Rattle.std.specs.Prelude.{Option, None, Some, Ok, Err, Result}
-use Rattle.arrayvec.specs.ArrayVec.{array_vec_len}
 use Rattle.std.specs.Borrow.{MutBor}
 use Rattle.store.specs.Fun.{Fn}
 use Rattle.store.specs.Meaning.{Shown}
@@ -106,7 +105,7 @@ pub record Spares (d : ℕ) (x y x' y' : List ℕ) : Type 0 where
 -- a session that is empty leaves both arrays as they are
 abbrev pub Spared : Option Search → List ℕ → List ℕ → List ℕ → List ℕ → Type 0
 Spared None x y x' y' = (x' ≡ x) × (y' ≡ y)
-Spared (Some k) x y x' y' = Spares (array_vec_len k.earlier) x y x' y'
+Spared (Some k) x y x' y' = Spares (length k.earlier.items) x y x' y'
 
 -- where the sets are kept and the last verdict is unsafe, the starts of both arrays are the trace
 abbrev pub Walks : Shown → Search → Result (Unit {0}) Fault → List ℕ → List ℕ → Type 0

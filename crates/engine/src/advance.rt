@@ -1,6 +1,5 @@
 // The call that makes the next set.
-ghost use Rattle.std.specs.Prelude.{◌≡◌, ◌<◌, true, is_err};
-ghost use Rattle.arrayvec.specs.ArrayVec.{array_vec_len};
+ghost use Rattle.std.specs.Prelude.{◌≡◌, ◌<◌, true, length, is_err};
 ghost use Rattle.uses.specs.Calls.{advance};
 ghost use Rattle.engine.specs.Keeping.{world, searching, Next};
 ghost use Rattle.engine.specs.Advancing.{Advances};
@@ -18,7 +17,7 @@ use uses::verdict::Verdict;
 impl Search {
     // From the last set the next one, and the verdict with it.
     fn step<S: Store>(&self, store: &mut S) -> Result<Stage, Unmade>
-        requires { array_vec_len self.now.earlier < MOST_ADVANCES }
+        requires { length self.now.earlier.items < MOST_ADVANCES }
         ensures { Advances (S.Store.shows store.old) self.now result (S.Store.shows store.new) }
     {
         let count = self.earlier.len() as u16;
@@ -43,11 +42,11 @@ impl Search {
             return Err(Fault::Settled);
         };
         // Never so in a session: the last set that there can be is settled.
-        if self.earlier.is_full() {
+        if self.earlier.len() == MOST_ADVANCES {
             return Err(Fault::Settled);
         }
         let stage = self.step(store)?;
-        self.earlier.push(self.last.set);
+        self.earlier.push(self.last.set).unwrap();
         self.last = stage;
         Ok(stage.verdict)
     }

@@ -7,7 +7,7 @@ ghost use Rattle.engine.specs.Loading.{BeginsFrom};
 use super::search::Search;
 use super::session::Session;
 use super::stage::{Stage, verdict_at};
-use arrayvec::ArrayVec;
+use copy_list::CopyList;
 use description::describe;
 use description::source::Source;
 use making::build;
@@ -22,7 +22,7 @@ fn begin(built: Built) -> Search
 {
     Search {
         parts: built.parts,
-        earlier: ArrayVec::new(),
+        earlier: CopyList::new(),
         last: Stage {
             set: built.set,
             verdict: verdict_at(0, built.met),

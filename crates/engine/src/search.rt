@@ -2,8 +2,8 @@ ghost use Rattle.std.specs.Prelude.{◌≡◌, ◌^◌};
 ghost use Rattle.making.specs.Loads.{registers_of};
 
 use super::stage::Stage;
-use arrayvec::ArrayVec;
 use circuit::MOST_REGISTERS;
+use copy_list::CopyList;
 use making::parts::Parts;
 
 // A search settles after at most as many advances as there are states.
@@ -13,10 +13,10 @@ pub const MOST_ADVANCES: usize = 1 << MOST_REGISTERS;
 pub const MOST_STEPS: usize = MOST_ADVANCES + 1;
 
 // A search: the numbers of its functions, its last set with the verdict, and the sets before that, from B_0 on.
-#[derive(Drop)]
+#[derive(Clone, Copy)]
 pub struct Search {
     pub(crate) parts: Parts,
-    pub(crate) earlier: ArrayVec<u16, MOST_ADVANCES>,
+    pub(crate) earlier: CopyList<u16, MOST_ADVANCES>,
     pub(crate) last: Stage,
 }
 

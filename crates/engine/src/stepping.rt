@@ -39,7 +39,7 @@ impl Search {
         ensures goes { GoesTo (S.Store.shows store.old) self.now.parts step.state step.input result }
     {
         let mut next = 0;
-        for bit in self.parts.nexts.iter().rev() {
+        for bit in self.parts.nexts.as_slice().iter().rev() {
             next = 2 * next + u16::from(self.truth(store, bit.function, step)?);
         }
         Ok(next)

@@ -1,6 +1,5 @@
 // The trace of an unsafe verdict.
 ghost use Rattle.std.specs.Prelude.{◌≡◌, ◌<◌, length};
-ghost use Rattle.arrayvec.specs.ArrayVec.{array_vec_len};
 ghost use Rattle.uses.specs.Calls.{trace};
 ghost use Rattle.engine.specs.Keeping.{world, Next};
 ghost use Rattle.engine.specs.Questions.{Spares, Spared, Walks};
@@ -21,10 +20,10 @@ impl Search {
         states: &mut [u16],
         inputs: &mut [u16],
     ) -> Result<(), Fault>
-        requires states_fit { array_vec_len self.now.earlier < length states.now }
-        requires inputs_fit { array_vec_len self.now.earlier < length inputs.now }
+        requires states_fit { length self.now.earlier.items < length states.now }
+        requires inputs_fit { length self.now.earlier.items < length inputs.now }
         ensures same { S.Store.shows store.new ≡ S.Store.shows store.old }
-        ensures spares { Spares (array_vec_len self.now.earlier) states.old inputs.old states.new inputs.new }
+        ensures spares { Spares (length self.now.earlier.items) states.old inputs.old states.new inputs.new }
         ensures walks { Walks (S.Store.shows store.old) self.now result states.new inputs.new }
     {
         let depth = self.earlier.len();
@@ -35,7 +34,7 @@ impl Search {
         )?;
         for t in 0..depth {
             let state = states[t];
-            let set = self.earlier[depth - t - 1];
+            let set = self.earlier.as_slice()[depth - t - 1];
             let input = smallest(
                 store,
                 self.inputs(),

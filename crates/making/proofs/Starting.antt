@@ -2,7 +2,7 @@
 use Rattle.std.proofs.Common.{◌≡◌, ℕ, ◌+◌, ◌-◌, ◌*◌, ◌<◌, ◌≤◌, List, length, get_or, drop, Result, sym, refl, ap, ◌∙◌, subst, arith, length-drop}
 use Rattle.std.proofs.lemmas.List.{length-take, get_or-take, get_or-drop}
 use Rattle.std.specs.List.{slice_range}
-use Rattle.arrayvec.specs.ArrayVec.{ArrayVec}
+use Rattle.copy_list.specs.Lists.{Listed}
 use Rattle.store.specs.declared.refusal.Refusal.{Refusal}
 use Rattle.store.specs.Fun.{Fn, bit}
 use Rattle.store.specs.Meaning.{Shown, Lawful, Grown}
@@ -38,7 +38,7 @@ nexts_length m ok numbers whole =
     omega (arith, length-take (init_line m.circuit - first) (drop first numbers), length-drop first numbers, whole, ok.circuit.enough_gates)
 
 -- f 0 to f (n - 1) with their negations
-pub pairs_made : (p : Part) (l : ℕ) {s t u : Shown} (f : ℕ → Fn) (n : ℕ) (ns bs : List ℕ) (r : Result (ArrayVec Polarities) Refusal) → Grown s t → Lawful t → Numbered s ns f n → length ns ≡ n
+pub pairs_made : (p : Part) (l : ℕ) {s t u : Shown} (f : ℕ → Fn) (n : ℕ) (ns bs : List ℕ) (r : Result (Listed Polarities) Refusal) → Grown s t → Lawful t → Numbered s ns f n → length ns ≡ n
     → bs ≡ ns → Negates t bs r u → Ends plain t u (negations_list p l f n) (λ ps. Lawful u × Paired u ps.items f n) r
 pairs_made p l {t = t} {u = u} f n ns bs r g w k whole e y =
     subst (λ n. Ends plain t u (negations_list p l f n) (λ ps. Lawful u × Paired u ps.items f n) r) whole

@@ -2,6 +2,7 @@
 use Rattle.std.specs.Prelude.{◌≡◌, ℕ, ◌+◌, ◌-◌, ◌*◌, ◌<◌, ◌≤◌}
 use Rattle.std.specs.Prelude.{true, false, List, [], ◌∷◌, ◌++◌, length, Ok, Err, Result, MatchResult, slice_index, slice_index_or}
 use Rattle.arrayvec.specs.ArrayVec.{ArrayVec}
+use Rattle.copy_list.specs.Lists.{Listed}
 use Rattle.store.specs.declared.refusal.Refusal.{Refusal}
 use Rattle.store.specs.declared.refusal.Refusal.TheVariants.{Number, Variable, Room}
 use Rattle.store.specs.Fun.{Fn, bit, fix}
@@ -52,7 +53,7 @@ abbrev pub ExistsAll : Shown → ℕ → ℕ → ℕ → Result ℕ Refusal → 
 ExistsAll s a x m r t = (p : Part) (l : ℕ) (f : Fn) → Means s a f → x + m ≤ s.vars → Gives plain s t (quantified_list p l x f m) (quantified x f m) r
 
 -- each of the functions with its negation
-abbrev pub Negates : Shown → List ℕ → Result (ArrayVec Polarities) Refusal → Shown → Type 0
+abbrev pub Negates : Shown → List ℕ → Result (Listed Polarities) Refusal → Shown → Type 0
 Negates s bs r t = (p : Part) (l : ℕ) (f : ℕ → Fn) → Lawful s → Numbered s bs f (length bs)
     → Ends plain s t (negations_list p l f (length bs)) (λ ps. Lawful t × Paired t ps.items f (length bs)) r
 

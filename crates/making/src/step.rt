@@ -16,8 +16,8 @@ pub fn back<S: Store>(store: &mut S, from: u16, parts: &Parts) -> Result<u16, Re
     ensures gives { StepsBack (S.Store.shows store.old) from parts.now result (S.Store.shows store.new) }
     ensures behaves { Behaves (S.Store.shows store.old) from parts.now result (S.Store.shows store.new) }
 {
-    let copied = compose_all(store, from, FIRST_REGISTER, &parts.copies)?;
-    let led = compose_all(store, copied, FIRST_COPY, &parts.nexts)?;
+    let copied = compose_all(store, from, FIRST_REGISTER, parts.copies.as_slice())?;
+    let led = compose_all(store, copied, FIRST_COPY, parts.nexts.as_slice())?;
     let allowed = store.and(led, parts.assumed)?;
     let some = exists_all(store, allowed, first_input(parts.registers()), parts.m)?;
     store.or(some, from)

@@ -1,4 +1,5 @@
-use Rattle.std.proofs.Common.{◌≡◌, suc, ◌+◌, ◌<◌, [], ◌∷◌, length, get_or, sym, ap, ◌∙◌, subst, add-one, arith}
+use Rattle.std.proofs.Common.{◌≡◌, suc, ◌+◌, ◌<◌, [], ◌∷◌, ◌++◌, length, get_or, sym, ap, ◌∙◌, subst, add-one, arith}
+use Rattle.std.proofs.lemmas.List.{length-append}
 use Rattle.store.specs.Meaning.{Lawful}
 use Rattle.runs.specs.Functions.{negated}
 use Rattle.making.specs.declared.parts.Polarities.{Polarities}
@@ -27,16 +28,17 @@ loop-function-preserved g c =
     let k = c.loop-function.function-index in
     let ps = c.loop-function.pairs.items in
     let pair : Polarities = record { function = get_or c.args.functions.now k 0; negation = c.in_ok-negation.negation } in
+    let added : c.push.new.self.items ≡ ps ++ pair ∷ [] = rw c.unwrap.ensures at c.push.ensures.added in
     let s = g.S.Store.shows c.args.store.now in
     let u = g.S.Store.shows c.not.new.self in (
-      c.push.ensures.len ∙ ap (λ i. i + 1) c.loop-function.invariant.0,
+      ap length added ∙ length-append ps (pair ∷ []) ∙ ap (λ i. i + 1) c.loop-function.invariant.0,
       λ p q f w h.
           let r = c.loop-function.invariant.1 p q f w h in
           let m = kept (runs_grown r.0) (h k c.loop-function-test.true) in
           let b = runs_of (gives_last c.in_ok-negation.ensures.lawful c.in_ok-negation.ensures.after _ (not_answers c.in_ok-negation.ensures m)) in
           let more = paired_more ps f k pair r.2 (runs_grown b.0) (record { function = kept (runs_grown b.0) m; negation = b.1 }) c.loop-function.invariant.0 in
           subst (λ n. Runs s (negations_list p q f n) u × Lawful u × Paired u c.push.new.self.items f n) (sym (add-one k))
-          (runs_join r.0 b.0, c.in_ok-negation.ensures.after, subst (λ xs. Paired u xs f (suc k)) (sym c.push.ensures.items) more),
+          (runs_join r.0 b.0, c.in_ok-negation.ensures.after, subst (λ xs. Paired u xs f (suc k)) (sym added) more),
     )
 
 pub returns-clause-negates : goal.returns-clause-negates

@@ -10,30 +10,30 @@ use Rattle.making.proofs.step.back.Goals as goal
 pub returns-in_err-copied-clause-gives : goal.returns-in_err-copied-clause-gives
 returns-in_err-copied-clause-gives g c p l f h next mf k =
     broke c.from_residual.result c.in_err-copied.field-0.0 c.from_residual.ensures.1
-    (ends_before _ (puts_copies p l f _ _ _ mf c.args.parts.now next h k c.deref.ensures.0 c.in_err-copied.ensures.gives))
+    (ends_before _ (puts_copies p l f _ _ _ mf c.args.parts.now next h k c.as_slice.ensures.items c.in_err-copied.ensures.gives))
 
 pub returns-in_err-led-clause-gives : goal.returns-in_err-led-clause-gives
 returns-in_err-led-clause-gives g c p l f h next mf k =
     let ps = c.args.parts.now in
-    let r1 = runs_of (puts_copies p l f _ _ _ mf ps next h k c.deref.ensures.0 c.in_ok-copied.ensures.gives) in
+    let r1 = runs_of (puts_copies p l f _ _ _ mf ps next h k c.as_slice.ensures.items c.in_ok-copied.ensures.gives) in
     broke c.from_residual-in_err-led.result c.in_err-led.field-0.0 c.from_residual-in_err-led.ensures.1
-    (ends_after r1.0 (ends_before _ (puts_nexts p l (copied (registers_of ps) f) _ _ _ r1.1 ps next h (kept_all (runs_grown r1.0) k) c.deref-2.ensures.0 c.in_err-led.ensures.gives)))
+    (ends_after r1.0 (ends_before _ (puts_nexts p l (copied (registers_of ps) f) _ _ _ r1.1 ps next h (kept_all (runs_grown r1.0) k) c.as_slice-2.ensures.items c.in_err-led.ensures.gives)))
 
 pub returns-in_err-allowed-clause-gives : goal.returns-in_err-allowed-clause-gives
 returns-in_err-allowed-clause-gives g c p l f h next mf k =
     let ps = c.args.parts.now in
-    let r1 = runs_of (puts_copies p l f _ _ _ mf ps next h k c.deref.ensures.0 c.in_ok-copied.ensures.gives) in
+    let r1 = runs_of (puts_copies p l f _ _ _ mf ps next h k c.as_slice.ensures.items c.in_ok-copied.ensures.gives) in
     let k1 = kept_all (runs_grown r1.0) k in
-    let r2 = runs_of (puts_nexts p l (copied (registers_of ps) f) _ _ _ r1.1 ps next h k1 c.deref-2.ensures.0 c.in_ok-led.ensures.gives) in
+    let r2 = runs_of (puts_nexts p l (copied (registers_of ps) f) _ _ _ r1.1 ps next h k1 c.as_slice-2.ensures.items c.in_ok-led.ensures.gives) in
     broke c.from_residual-in_err-allowed.result c.in_err-allowed.field-0.0 c.from_residual-in_err-allowed.ensures.1
     (ends_after r1.0 (ends_after r2.0 (ends_here c.in_err-allowed.ensures.lawful _ (and_answers c.in_err-allowed.ensures r2.1 (kept (runs_grown r2.0) k1.assumed)))))
 
 pub returns-in_err-some-clause-gives : goal.returns-in_err-some-clause-gives
 returns-in_err-some-clause-gives g c p l f h next mf k =
     let ps = c.args.parts.now in
-    let r1 = runs_of (puts_copies p l f _ _ _ mf ps next h k c.deref.ensures.0 c.in_ok-copied.ensures.gives) in
+    let r1 = runs_of (puts_copies p l f _ _ _ mf ps next h k c.as_slice.ensures.items c.in_ok-copied.ensures.gives) in
     let k1 = kept_all (runs_grown r1.0) k in
-    let r2 = runs_of (puts_nexts p l (copied (registers_of ps) f) _ _ _ r1.1 ps next h k1 c.deref-2.ensures.0 c.in_ok-led.ensures.gives) in
+    let r2 = runs_of (puts_nexts p l (copied (registers_of ps) f) _ _ _ r1.1 ps next h k1 c.as_slice-2.ensures.items c.in_ok-led.ensures.gives) in
     let k2 = kept_all (runs_grown r2.0) k1 in
     let r3 = runs_of (gives_last c.in_ok-allowed.ensures.lawful c.in_ok-allowed.ensures.after _ (and_answers c.in_ok-allowed.ensures r2.1 k2.assumed)) in
     broke c.from_residual-in_err-some.result c.in_err-some.field-0.0 c.from_residual-in_err-some.ensures.1
@@ -42,9 +42,9 @@ returns-in_err-some-clause-gives g c p l f h next mf k =
 pub returns-clause-gives : goal.returns-clause-gives
 returns-clause-gives g c p l f h next mf k =
     let ps = c.args.parts.now in
-    let r1 = runs_of (puts_copies p l f _ _ _ mf ps next h k c.deref.ensures.0 c.in_ok-copied.ensures.gives) in
+    let r1 = runs_of (puts_copies p l f _ _ _ mf ps next h k c.as_slice.ensures.items c.in_ok-copied.ensures.gives) in
     let k1 = kept_all (runs_grown r1.0) k in
-    let r2 = runs_of (puts_nexts p l (copied (registers_of ps) f) _ _ _ r1.1 ps next h k1 c.deref-2.ensures.0 c.in_ok-led.ensures.gives) in
+    let r2 = runs_of (puts_nexts p l (copied (registers_of ps) f) _ _ _ r1.1 ps next h k1 c.as_slice-2.ensures.items c.in_ok-led.ensures.gives) in
     let k2 = kept_all (runs_grown r2.0) k1 in
     let r3 = runs_of (gives_last c.in_ok-allowed.ensures.lawful c.in_ok-allowed.ensures.after _ (and_answers c.in_ok-allowed.ensures r2.1 k2.assumed)) in
     let r4 = runs_of ((rw (c.first_input.ensures, c.registers.ensures.counts) at c.in_ok-some.ensures.gives) p l (both (pre_image (registers_of ps) next f) h) r3.1 (kept_all (runs_grown r3.0) k2).wide) in
@@ -76,8 +76,8 @@ pub returns-in_err-copied-clause-behaves : goal.returns-in_err-copied-clause-beh
 returns-in_err-copied-clause-behaves g c =
     let b = c.from_residual.ensures.1 in
     record {
-      tells = leaves c.from_residual.result c.in_err-copied.field-0.0 b grown_none (λ h. (h.source, held_copies c.deref.ensures.0 h))
-          (fit_copies c.args.parts.now c.deref.ensures.0) c.in_err-copied.ensures.tells;
+      tells = leaves c.from_residual.result c.in_err-copied.field-0.0 b grown_none (λ h. (h.source, held_copies c.as_slice.ensures.items h))
+          (fit_copies c.args.parts.now c.as_slice.ensures.items) c.in_err-copied.ensures.tells;
       refuses = λ h. number_by c.from_residual.result c.in_err-copied.field-0.0 b (c.in_err-copied.ensures.passes h);
     }
 
@@ -87,8 +87,8 @@ returns-in_err-led-clause-behaves g c =
     let w = c.in_ok-copied.ensures.grown in
     record {
       tells = leaves c.from_residual-in_err-led.result c.in_err-led.field-0.0 b w
-          (λ h. (told c.in_ok-copied.ensures.tells h.source, held_pairs _ w (held_nexts c.deref-2.ensures.0 h)))
-          (fit_nexts c.args.parts.now c.deref-2.ensures.0) c.in_err-led.ensures.tells;
+          (λ h. (told c.in_ok-copied.ensures.tells h.source, held_pairs _ w (held_nexts c.as_slice-2.ensures.items h)))
+          (fit_nexts c.args.parts.now c.as_slice-2.ensures.items) c.in_err-led.ensures.tells;
       refuses = λ h.
           let first = c.in_ok-copied.ensures.passes h in
           let second = c.in_err-led.ensures.passes (still_unheld h first) in

@@ -1,6 +1,4 @@
-use Rattle.std.proofs.Common.{◌≡◌, refl, sym, subst, ◌∙◌, arith}
-use Rattle.std.proofs.lemmas.Bool.{eqb-true}
-use Rattle.arrayvec.specs.ArrayVec.{array_vec_len}
+use Rattle.std.proofs.Common.{◌≡◌, length, refl, sym, subst, ◌∙◌, arith}
 use Rattle.uses.specs.declared.fault.Fault.TheVariants.{Making}
 use Rattle.uses.specs.Calls.{advance}
 use Rattle.engine.specs.Keeping.{searching, Next}
@@ -11,9 +9,9 @@ use Rattle.engine.proofs.search.Search.advance.Goals as goal
 pub returns-in_default : goal.returns-in_default
 returns-in_default g c = record { next = when_settled (searching (g.S.Store.shows c.args.store.now) c.args.self.now) c.args.self.now refl c.in_default.not-Open; refused = λ _. refl }
 
-pub returns-then-is_full-clause-next : goal.returns-then-is_full-clause-next
-returns-then-is_full-clause-next g c =
-    let e : array_vec_len c.args.self.now.earlier ≡ 256 = eqb-true _ _ (sym c.is_full.ensures.value ∙ c.if-is_full.true) in
+pub returns-then-len-eq-MOST_ADVANCES-clause-next : goal.returns-then-len-eq-MOST_ADVANCES-clause-next
+returns-then-len-eq-MOST_ADVANCES-clause-next g c =
+    let e : length c.args.self.now.earlier.items ≡ 256 = sym c.len.ensures.items ∙ c.if-len-eq-MOST_ADVANCES.true in
     when_many (searching (g.S.Store.shows c.args.store.now) c.args.self.now) c.args.self.now refl (omega arith)
 
 pub returns-in_err-stage-clause-next : goal.returns-in_err-stage-clause-next
@@ -24,4 +22,4 @@ returns-in_err-stage-clause-next g c =
 
 pub returns-clause-next : goal.returns-clause-next
 returns-clause-next g c = when_done (searching (g.S.Store.shows c.args.store.now) c.args.self.now) c.args.self.now refl c.in-Open.is (g.S.Store.shows c.step.new.store) c.in_ok-stage.stage _
-    refl c.push.ensures.items refl c.in_ok-stage.ensures
+    refl (rw c.unwrap.ensures at c.push.ensures.added) refl c.in_ok-stage.ensures

@@ -20,8 +20,8 @@ use Rattle.std.proofs.Common.{Result, Bool, Ok}
 pub loop-bit-init : goal.loop-bit-init
 loop-bit-init g c =
     let k = c.args.self.now.parts in
-    let e = ap (λ i. i.iter.rest.now) c.into_iter-bit-iterator.ensures.into_iter_gives ∙ ap (λ i. i.rest.now) c.rev-bit-items.ensures.source ∙ c.iter.ensures.rest ∙ c.deref.ensures.0 in
-    let few = c.deref.ensures.1 in
+    let e = ap (λ i. i.iter.rest.now) c.into_iter-bit-iterator.ensures.into_iter_gives ∙ ap (λ i. i.rest.now) c.rev-bit-items.ensures.source ∙ c.iter.ensures.rest ∙ c.as_slice.ensures.items in
+    let few = c.as_slice.ensures.few in
     let n : length c.into_iter-bit-iterator.result.iter.rest.now ≡ registers_of k = omega (arith, ap length e, k.led) in
     (tt, tt, refl, ([], append-nil _ ∙ e, omega arith), λ m h lq lv. sym (div-eq_of_lt (subst (λ i. (system m).next c.args.step.state c.args.step.input < 2 ^ i) (sym (n ∙ h.registers)) (closed m c.args.step.state c.args.step.input lq lv))))
 
@@ -32,8 +32,8 @@ fits g c =
     let d = c.loop-bit.invariant.3 in
     let a = in_all _ _ d.0 _ c.in-Some.bit.now c.in-Some.ensures.steps d.1 in
     let b = k.led in
-    let few = c.deref.ensures.1 in
-    let e = ap length c.deref.ensures.0 in
+    let few = c.as_slice.ensures.few in
+    let e = ap length c.as_slice.ensures.items in
     (omega arith, room (length d.0) c.loop-bit.next (omega arith) d.2)
 
 told : (g : _) (c : In-Some g) (m : Model) → Readable (g.S.Store.shows c.args.store.now) m c.args.self.now.parts → State (system m) c.args.step.state → Input (system m) c.args.step.input

@@ -35,19 +35,19 @@ module _ (g : _) (c : After-place_at g) (m : Model) (d : Ready (g.S.Store.shows 
     lawful = (placed_made (λ b. Lawful t × (t.held b ≡ true)) Sets i c.back.result c.place_at.ensures p (told_if c.back.ensures.behaves.tells)).0
 
 pub returns-in_err-set : goal.returns-in_err-set
-returns-in_err-set g c m j e = at_count m _ _ (c.len-count.ensures.value ∙ e.count) e (λ d.
+returns-in_err-set g c m j e = at_count m _ _ (c.len-count.ensures.items ∙ e.count) e (λ d.
     let i = c.len-count.result in
     broke c.from_residual.result c.in_err-set.field-0.0 c.from_residual.ensures.1
     (ends_before (cond (equal_at m i) [] (last_at m i)) (placed_err Sets i c.back.result c.place_at.ensures (lies m i) (backs g (goal.at.returns-in_err-set g c).After-place_at m d) c.in_err-set.was)))
 
 pub returns-then-set-self : goal.returns-then-set-self
-returns-then-set-self g c m j e = at_count m _ _ (c.len-count.ensures.value ∙ e.count) e (λ d.
+returns-then-set-self g c m j e = at_count m _ _ (c.len-count.ensures.items ∙ e.count) e (λ d.
     let b = (goal.at.returns-then-set-self g c).After-place_at in
     let o = next g b m d c.in_ok-set.set c.in_ok-set.was in
     settled m c.len-count.result _ c.args.self.now d c.in_ok-set.set o.0 o.1 (lawful g b m d c.in_ok-set.set c.in_ok-set.was) c.if-set-self.true)
 
 pub returns-in_err-met : goal.returns-in_err-met
-returns-in_err-met g c m j e = at_count m _ _ (c.len-count.ensures.value ∙ e.count) e (λ d.
+returns-in_err-met g c m j e = at_count m _ _ (c.len-count.ensures.items ∙ e.count) e (λ d.
     let b = (goal.at.returns-in_err-met g c).After-place_at in
     let i = c.len-count.result in
     let a = c.in_ok-set.set in
@@ -59,7 +59,7 @@ returns-in_err-met g c m j e = at_count m _ _ (c.len-count.ensures.value ∙ e.c
     (ends_refused (placed_err Sets i c.and.result c.place_at-else-set-self.ensures (refl, refl, tt) (met m i _ k d a o.0 o.1 l _ c.and.result c.and.ensures) c.in_err-met.was))))
 
 pub returns-in_ok-met : goal.returns-in_ok-met
-returns-in_ok-met g c m j e = at_count m _ _ (c.len-count.ensures.value ∙ e.count) e (λ d.
+returns-in_ok-met g c m j e = at_count m _ _ (c.len-count.ensures.items ∙ e.count) e (λ d.
     let b = (goal.at.returns-in_ok-met g c).After-place_at in
     let i = c.len-count.result in
     let a = c.in_ok-set.set in

@@ -1,6 +1,5 @@
 use Rattle.std.proofs.Common.{rules, ◌≡◌, ℕ, ◌+◌, ◌-◌, ◌^◌, ◌<◌, length, get_or, set as set_at, Ok, Result, sym, refl, ap, ◌∙◌, subst, add-one, true, arith}
 use Rattle.std.proofs.lemmas.List.{length-set}
-use Rattle.arrayvec.specs.ArrayVec.{array_vec_len}
 use Rattle.making.specs.Making.{Means}
 use Rattle.making.specs.Faults.{Fault}
 use Rattle.runs.specs.Models.{Model, system}
@@ -58,19 +57,19 @@ module _ (g : _) (c : After-smallest-in-loop-t g) (m : Model) (j : ℕ) (h : Set
   is_state = state_now (system m) j t c.loop-t.states c.loop-t.inputs so_far (closed m)
 
   left : t < j
-  left = omega (arith, c.loop-t-test.true, c.len-depth.ensures.value, h.count)
+  left = omega (arith, c.loop-t-test.true, c.len-depth.ensures.items, h.count)
 
   set_here : Means (g.S.Store.shows c.loop-t.store) (get_or k.earlier.items (j - t - 1) 0) (set_fn m (j - t - 1))
   set_here = here.earlier (j - t - 1) (omega (arith, left))
 
   -- the set that is read here
   abbrev set : ℕ
-  set = get_or c.deref.result.now (c.len-depth.result - t - 1) 0
+  set = get_or c.as_slice.result.now (c.len-depth.result - t - 1) 0
 
   set_is : get_or k.earlier.items (j - t - 1) 0 ≡ set
   set_is =
-      let n : j - t - 1 ≡ c.len-depth.result - t - 1 = ap (λ i. i - t - 1) (sym (c.len-depth.ensures.value ∙ h.count)) in
-      ap (get_or k.earlier.items (j - t - 1)) refl ∙ ap (λ i. get_or k.earlier.items i 0) n ∙ ap (λ l. get_or l (c.len-depth.result - t - 1) 0) (sym c.deref.ensures.0)
+      let n : j - t - 1 ≡ c.len-depth.result - t - 1 = ap (λ i. i - t - 1) (sym (c.len-depth.ensures.items ∙ h.count)) in
+      ap (get_or k.earlier.items (j - t - 1)) refl ∙ ap (λ i. get_or k.earlier.items i 0) n ∙ ap (λ l. get_or l (c.len-depth.result - t - 1) 0) (sym c.as_slice.ensures.items)
 
   leads : Finds (2 ^ (system m).inputs) (leads_into (system m) (bad (system m) (j - t - 1)) state) c.smallest-in-loop-t.result
   leads = lead m j _ k here g.S.Store.shows _ _ c.smallest-in-loop-t.result c.smallest-in-loop-t.ensures.finds c.inputs.ensures state is_state
@@ -105,9 +104,9 @@ returns-in_err-states-2-clause-walks g c m j h r e =
 pub loop-t-preserved : goal.loop-t-preserved
 loop-t-preserved g c =
     let b = (goal.at.loop-t-preserved g c).After-smallest-in-loop-t in
-    let d = array_vec_len c.args.self.now.earlier in
+    let d = length c.args.self.now.earlier.items in
     let l = c.loop-t-test.true in
-    let n = c.len-depth.ensures.value in (
+    let n = c.len-depth.ensures.items in (
       c.next_state.ensures.same ∙ c.smallest-in-loop-t.ensures.same ∙ c.loop-t.invariant.0,
       spares_state d _ _ c.loop-t.states (set_at c.loop-t.inputs c.loop-t.t c.in_ok-input.input) (c.loop-t.t + 1) c.in_ok-states-2.field-0 (omega (arith, l, n))
           (spares_input d _ _ c.loop-t.states c.loop-t.inputs c.loop-t.t c.in_ok-input.input (omega (arith, l, n)) c.loop-t.invariant.1),
@@ -122,7 +121,7 @@ module _ (g : _) (c : After-smallest-2 g) (m : Model) (j : ℕ) (h : Sets m j (g
   at_first = sets_still m j c.args.self.now _ _ c.smallest.ensures.same h
 
   at_end : c.len-depth.result ≡ j
-  at_end = c.len-depth.ensures.value ∙ h.count
+  at_end = c.len-depth.ensures.items ∙ h.count
 
   abbrev end : ℕ
   end = at c.loop-t.states c.len-depth.result
@@ -150,11 +149,11 @@ returns-in_err-inputs-clause-walks g c m j h r e =
 
 pub returns-clause-spares : goal.returns-clause-spares
 returns-clause-spares g c =
-    let d = array_vec_len c.args.self.now.earlier in
+    let d = length c.args.self.now.earlier.items in
     let x = c.args.states.now in
     let y = c.args.inputs.now in
     let x' = set_at x 0 c.in_ok-states.field-0 in
-    let n = c.len-depth.ensures.value in
+    let n = c.len-depth.ensures.items in
     spares_input d x y c.loop-t.states c.loop-t.inputs c.len-depth.result c.in_ok-inputs.field-0 (omega (arith, n))
     (spares_both d x y x' y c.loop-t.states c.loop-t.inputs (spares_state d x y x y 0 c.in_ok-states.field-0 (omega arith) (spares_none d x y)) c.loop-t.invariant.1)
 
@@ -163,5 +162,5 @@ returns-clause-walks g c m j h r e =
     let b = (goal.at.returns-clause-walks g c).After-smallest-2 in (
       refl,
       finishes (system m) j _ c.loop-t.states c.loop-t.inputs (whole g b m j h r e) c.in_ok-inputs.field-0 (at_end g b m j h r e)
-          (omega (arith, c.len-depth.ensures.value, c.requires.inputs_fit, c.loop-t.auto.inputs)) (found _ _ _ (faults g b m j h r e) c.in_ok-inputs.was),
+          (omega (arith, c.len-depth.ensures.items, c.requires.inputs_fit, c.loop-t.auto.inputs)) (found _ _ _ (faults g b m j h r e) c.in_ok-inputs.was),
     )

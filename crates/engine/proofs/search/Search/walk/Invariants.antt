@@ -1,5 +1,4 @@
-use Rattle.std.proofs.Common.{◌≡◌, ℕ}
-use Rattle.arrayvec.specs.ArrayVec.{array_vec_len}
+use Rattle.std.proofs.Common.{◌≡◌, ℕ, length}
 use Rattle.runs.specs.Models.{Model, system}
 use Rattle.runs.specs.Search.{unsafe, verdict, Reached, TraceTo}
 use Rattle.engine.specs.Keeping.{Sets}
@@ -11,6 +10,6 @@ use Rattle.engine.proofs.search.Search.walk.Given as goal
 abbrev pub invariant-loop-t : goal.invariant-loop-t
 invariant-loop-t g l =
     (g.S.Store.shows l.store ≡ g.S.Store.shows l.initial.store)
-    × (Spares (array_vec_len l.self.earlier) l.initial.states l.initial.inputs l.states l.inputs)
+    × (Spares (length l.self.earlier.items) l.initial.states l.initial.inputs l.states l.inputs)
     × ((m : Model) (j : ℕ) → Sets m j (g.S.Store.shows l.initial.store) l.self → Reached (system m) j → verdict (system m) j ≡ unsafe j
     → TraceTo (system m) j l.t (at l.states) (at l.inputs))
