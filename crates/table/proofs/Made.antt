@@ -1,5 +1,5 @@
 -- A function that is made over the tables xs, by what its look-up answers.
-use Rattle.std.proofs.Common.{◌≡◌, ℕ, zero, suc, ◌+◌, ◌<◌, ◌≤◌, Bool, true, false, List, [], ◌∷◌, ◌++◌, length, get_or, Some, None, Option, Ok, Err, Result, MatchResult, IsErrAnd, sym, refl, ap, ◌∙◌, subst, ⊎_elim, arith}
+use Rattle.std.proofs.Common.{◌≡◌, ℕ, zero, suc, ◌+◌, ◌<◌, ◌≤◌, Bool, true, false, List, [], ◌∷◌, ◌++◌, length, get_or, Some, None, Ok, Err, Result, MatchResult, IsErrAnd, sym, refl, ap, ◌∙◌, subst, ⊎_elim, arith}
 use mir.Val.{bool_byte}
 use Rattle.std.specs.List.{slice_get}
 use Rattle.std.proofs.ByRecursion.{All-get_or}
@@ -48,14 +48,6 @@ pub replied : {P : Full → Refusal → Type 0} → (p : Result ℕ Full) (q : R
     → ((s : Full) (e : Refusal) → P s e → e ≡ Room 0) → reply p ≡ numbered q
 replied (Ok k) q h is = ap numbered (sym h)
 replied (Err s) q h is = let e = err_from_is_err_and q h in ap Err (sym (is s e.0 e.2)) ∙ ap numbered (sym e.1)
-
--- the constant that a function is, by its table
-pub constant_of : (n : ℕ) (f : Fn) (t : Truths) (r : Option Bool) → n ≤ 10 → t ≡ table n f → Constant n (truth t) r → Constant n f r
-constant_of n f t r few is e = told r (subst (λ (u : Truths). Constant n (truth u) r) is e)
-  where
-    told : (r : Option Bool) → Constant n (truth (table n f)) r → Constant n f r
-    told (Some b) e = λ w h. sym (truth_table n f few w h) ∙ e w h
-    told None e = λ b s. e b (λ w h. truth_table n f few w h ∙ s w h)
 
 -- an entry that equals t is t itself
 stands : (xs : List Truths) (k : ℕ) (t : Truths) → Stands alike xs k t → slice_get xs k ≡ Some t
@@ -147,10 +139,7 @@ module _ (n : ℕ) (xs : List Truths) (capacity : ℕ) (few : n ≤ 10) (fits : 
         (ap (λ zs. shown n zs capacity) h.2, omega (arith, price_one n xs capacity f (not_held (absent xs (length xs) (table n f) h.1)), h.0), omega (arith, h.0))
 
 -- what is then so of a store d whose list has become m, by the look-up of x, the table of f, which is no constant
-module _ (d : Table) (m : Records Truths _ _) (f : Fn) (x : Truths) (is : x ≡ table d.n f) (none : Constant d.n (truth x) None) (p : Result ℕ Full) (h : Places d.list x p m) where
-  mixed : (b : Bool) → Same d.n f (λ _. b) → ⊥
-  mixed = constant_of d.n f x None d.few is none
-
+module _ (d : Table) (m : Records Truths _ _) (f : Fn) (x : Truths) (is : x ≡ table d.n f) (mixed : Constant d.n f None) (p : Result ℕ Full) (h : Places d.list x p m) where
   looked : LookedUp alike (entries d.list) (room d.list) (table d.n f) p (entries m)
   looked = subst (λ (t : Truths). LookedUp alike (entries d.list) (room d.list) t p (entries m)) is h.0
 

@@ -12,7 +12,7 @@ use Rattle.std.proofs.lemmas.Bool.{cases_Bool, cases_lt, ltb-true, lt-ltb, le-lt
 use Rattle.std.proofs.lemmas.Nat.{pow_pos}
 use denote.Param.Members.{Mut}
 use Rattle.store.specs.Fun.{Fn, bit, Same}
-use Rattle.table.specs.Tables.{truth, packed, packed_truths, within, table, Constant}
+use Rattle.table.specs.Tables.{truth, packed, packed_truths, within, table, Constant, EndsAt}
 
 first_bit : (t : Bool) (p : ℕ) → bit 0 (2 * p + cond t 1 0) ≡ t
 first_bit true p = let e : (2 * p + 1) % 2 ≡ 1 = omega arith in rw e refl
@@ -30,6 +30,12 @@ packed_lt (suc m) w g = let q = pow-suc 2 m in let r = packed_lt m (suc w) g in 
 pub packed_none : (w : ℕ) (g : Fn) → packed 0 w g ≡ 0
 unfolding packed
 packed_none w g = refl
+
+-- where g is false on, bits are 0
+pub packed_past : (m w : ℕ) (g : Fn) → EndsAt w g → packed m w g ≡ 0
+unfolding packed
+packed_past zero w g h = refl
+packed_past (suc m) w g h = rw (packed_past m (suc w) g (λ v l. h v (omega arith)), h w (omega arith)) refl
 
 pub bool_low : (t : Bool) → bool_byte t ≤ 1
 bool_low true = omega arith
@@ -80,6 +86,10 @@ pub table_size : (n : ℕ) (f : Fn) → length (table n f).bytes ≡ 128
 unfolding packed_truths
 table_size n f = length-map (range_with_len 0 128) (λ j. packed 8 (8 * j) (within n f)) ∙ length-range_with_len 0 128
 
+-- within n, f ends at 2^n
+pub within_ends : (n : ℕ) (f : Fn) → EndsAt (2 ^ n) (within n f)
+within_ends n f w h = rw (le-ltb w (2 ^ n) h) refl
+
 within_same : (n : ℕ) (f g : Fn) → Same n f g → within n f ≡ within n g
 within_same n f g e = fun_ext (λ w. ⊎_elim
     (λ y. ap (λ b. ltb w (2 ^ n) && b) (e w (ltb-true w (2 ^ n) y)))
@@ -92,8 +102,8 @@ table_same n f g e = ap packed_truths (within_same n f g e)
 
 -- the constant that g is, by whether its values from 1 on are its first
 pub constant_told : (n : ℕ) (g : Fn) (first r : Bool) → first ≡ g 0
-    → MatchBool r (AllWithin (λ w. g w ≡ first) (range_with_len 1 (2 ^ n - 1)) 0 (length (range_with_len 1 (2 ^ n - 1))))
-    ((k : ℕ) × (k < length (range_with_len 1 (2 ^ n - 1))) × HoldsAt (λ w. g w ≢ first) (range_with_len 1 (2 ^ n - 1)) k)
+    → MatchBool r (AllWithin (λ w. w < 2 ^ n → g w ≡ first) (range_with_len 1 (2 ^ n - 1)) 0 (length (range_with_len 1 (2 ^ n - 1))))
+    ((k : ℕ) × (k < length (range_with_len 1 (2 ^ n - 1))) × HoldsAt (λ w. w < 2 ^ n → g w ≢ first) (range_with_len 1 (2 ^ n - 1)) k)
     → Constant n g (then_some r first)
 constant_told n g first true e all = λ w h. at w h
   where
@@ -102,12 +112,12 @@ constant_told n g first true e all = λ w h. at w h
     at (suc k) h =
         let l = length-range_with_len 1 (2 ^ n - 1) in
         let q = get_or-range_with_len 1 (2 ^ n - 1) k 0 (omega arith) in
-        ap g (omega (arith, q)) ∙ all k 0 (omega arith) (omega (arith, l))
+        ap g (omega (arith, q)) ∙ all k 0 (omega arith) (omega (arith, l)) (omega (arith, q))
 constant_told n g first false e (k, low, other) =
     let l = length-range_with_len 1 (2 ^ n - 1) in
     let p = pow_pos n in
     let q = get_or-range_with_len 1 (2 ^ n - 1) k 0 (omega (arith, l)) in
-    λ b s. other 0 (s _ (omega (arith, l, q)) ∙ sym (s 0 (omega arith)) ∙ sym e)
+    λ b s. other 0 (omega (arith, l, q)) (s _ (omega (arith, l, q)) ∙ sym (s 0 (omega arith)) ∙ sym e)
 
 -- what the calls in turn gave, where each gives h
 pub from_fn_at : {F B : Type 0} (g : Mut F (ℕ × Unit {0}) B) (f : F) (h : ℕ → B) → ((i : ℕ) (y : B) (q : F) → Called g f (i, tt) y q → (q ≡ f) × (y ≡ h i))

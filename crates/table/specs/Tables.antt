@@ -1,7 +1,9 @@
 -- Truth tables of 128 bytes: the value at w is bit w mod 8 of byte w div 8.
-use Rattle.std.specs.Prelude.{◌≡◌, ℕ, zero, suc, ◌+◌, ◌*◌, ◌/◌, ◌%◌, ◌^◌, ◌<◌, Bool, Some, None, Option, cond, ◌&&◌, map, nat_lt, slice_index}
+use Rattle.std.specs.Prelude.{◌≡◌, ℕ, zero, suc, ◌+◌, ◌*◌, ◌/◌, ◌%◌, ◌^◌, ◌<◌, ◌≤◌, Bool, false, Some, None, Option, cond, ◌&&◌, map, nat_lt, slice_index}
 use Rattle.std.specs.List.{range_with_len}
 use Rattle.store.specs.Fun.{Fn, Same, bit}
+use Rattle.table.specs.declared.truths.Form.{Form}
+use Rattle.table.specs.declared.truths.Form.TheVariants as form
 use Rattle.table.specs.declared.truths.Truths.{Truths}
 
 -- the function of a table
@@ -30,6 +32,15 @@ abbrev pub Constant : ℕ → Fn → Option Bool → Type 0
 Constant n f (Some b) = Same n f (λ _. b)
 Constant n f None = (b : Bool) → Same n f (λ _. b) → ⊥
 
+-- f as a function of n variables, by its constant or its table
+abbrev pub FormOf : ℕ → Fn → Form → Type 0
+FormOf n f (form.Constant b) = Constant n f (Some b)
+FormOf n f (form.Mixed t) = (t ≡ table n f) × Constant n f None
+
 -- a closure whose calls are `post` computes f below m
 abbrev pub Computes : ℕ → (ℕ → Bool → Type 0) → Fn → Type 0
 Computes m post f = (w : ℕ) (r : Bool) → w < m → post w r → r ≡ f w
+
+-- f is false from m on
+abbrev pub EndsAt : ℕ → Fn → Type 0
+EndsAt m f = (w : ℕ) → m ≤ w → f w ≡ false

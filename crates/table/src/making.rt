@@ -1,14 +1,14 @@
-// How a function is made: its table is worked out, and looked up or added.
+// How a function is made: its table is worked out, unless it is a constant, and looked up or added.
 ghost use Rattle.std.specs.Prelude.{◌≡◌, ◌+◌, length, true};
 ghost use Rattle.records.specs.Contents.{entries};
 ghost use Rattle.store.specs.Calls.{Answers};
 ghost use Rattle.store.specs.Tasks.{within, asked};
 ghost use Rattle.table.specs.Shows.{value};
 ghost use Rattle.table.specs.Store.{shows};
-ghost use Rattle.table.specs.Tables.{table};
+ghost use Rattle.table.specs.Tables.{FormOf};
 
 use super::Table;
-use super::truths::Truths;
+use super::truths::Form;
 use store::bits::{bit, with_bit};
 use store::refusal::Refusal;
 use store::task::{Op, Task};
@@ -24,23 +24,17 @@ impl Table<'_> {
         self.record(a).is_some_and(|t| t.at(w))
     }
 
-    // The table of what the task asks for.
-    fn table(&self, task: Task) -> Truths
+    // The function that the task asks for, as a constant or a table.
+    fn form(&self, task: Task) -> Form
         requires { within (shows self.now) task ≡ true }
-        ensures { result ≡ table self.now.n (asked (shows self.now) task) }
+        ensures { FormOf self.now.n (asked (shows self.now) task) result }
     {
         match task {
-            Task::Variable(i) => Truths::of(self.n, |w| bit(w, i)),
-            Task::Not(a) => Truths::of(self.n, |w| !self.truth(a, w)),
-            Task::Both(Op::And, a, b) => Truths::of(
-                self.n,
-                |w| self.truth(a, w) && self.truth(b, w),
-            ),
-            Task::Both(Op::Or, a, b) => Truths::of(
-                self.n,
-                |w| self.truth(a, w) || self.truth(b, w),
-            ),
-            Task::Cofactor(a, i, t) => Truths::of(self.n, |w| self.truth(a, with_bit(w, i, t))),
+            Task::Variable(i) => Form::of(self.n, |w| bit(w, i)),
+            Task::Not(a) => Form::of(self.n, |w| !self.truth(a, w)),
+            Task::Both(Op::And, a, b) => Form::of(self.n, |w| self.truth(a, w) && self.truth(b, w)),
+            Task::Both(Op::Or, a, b) => Form::of(self.n, |w| self.truth(a, w) || self.truth(b, w)),
+            Task::Cofactor(a, i, t) => Form::of(self.n, |w| self.truth(a, with_bit(w, i, t))),
         }
     }
 
@@ -49,10 +43,10 @@ impl Table<'_> {
         requires { within (shows self.old) task ≡ true }
         ensures { Answers (shows self.old) (shows self.new) (asked (shows self.old) task) result }
     {
-        let table = self.table(task);
-        if let Some(t) = table.constant(self.n) {
-            return Ok(u16::from(t));
-        }
+        let table = match self.form(task) {
+            Form::Constant(t) => return Ok(u16::from(t)),
+            Form::Mixed(table) => table,
+        };
         let place = self.list.find_or_add(table).map_err(|_| Refusal::Room(0))?;
         Ok(place as u16 + 2)
     }

@@ -2,7 +2,7 @@
 ghost use Rattle.std.specs.Prelude.{◌≡◌, ◌*◌, ◌^◌, ◌<◌, ◌≤◌};
 ghost use Rattle.store.specs.Fun.{Fn};
 ghost use Rattle.table.specs.declared.TheConstants.{MOST};
-ghost use Rattle.table.specs.Tables.{truth, packed, packed_truths, table, Constant, Computes};
+ghost use Rattle.table.specs.Tables.{truth, packed, packed_truths, table, Constant, Computes, EndsAt, FormOf};
 ghost use Rattle.table.specs.Hash.{mixed};
 ghost use Rattle.table.specs.Identity.{alike_mixed};
 
@@ -35,22 +35,22 @@ impl Entry for Truths {
 
 impl Truths {
     // The table of f, of n variables.
-    pub(super) fn of<F: Fn(u32) -> bool>(n: u8, f: F) -> Truths
+    fn of<F: Fn(u32) -> bool>(n: u8, f: F) -> Truths
         requires few { n ≤ MOST }
         requires callable { F.IsAlwaysCallable f }
         ensures { (g : Fn) → Computes (2 ^ n) (F.post f) g → result ≡ table n g }
     {
         let size = 1 << n;
-        Truths::packed(|w| w < size && f(w))
+        Truths::packed(size, |w| w < size && f(w))
     }
 
-    // The values of f as a function of the most variables.
-    fn packed<F: Fn(u32) -> bool>(f: F) -> Truths
+    // The values of f, which is false from `size` on.
+    fn packed<F: Fn(u32) -> bool>(size: u32, f: F) -> Truths
         requires callable { F.IsAlwaysCallable f }
-        ensures { (g : Fn) → Computes (2 ^ MOST) (F.post f) g → result ≡ packed_truths g }
+        ensures { (g : Fn) → Computes (2 ^ MOST) (F.post f) g → EndsAt size g → result ≡ packed_truths g }
     {
         Truths {
-            bytes: array::from_fn(|j| byte(&f, j)),
+            bytes: array::from_fn(|j| byte(size, &f, j)),
         }
     }
 
@@ -61,27 +61,52 @@ impl Truths {
         let byte = self.bytes.get((w / 8) as usize).copied().unwrap_or(0);
         bit(u32::from(byte), (w % 8) as u8)
     }
-
-    // The constant that it is as a function of n variables, if it is one.
-    pub(super) fn constant(&self, n: u8) -> Option<bool>
-        requires { n ≤ MOST }
-        ensures { Constant n (truth self.now) result }
-    {
-        let first = self.at(0);
-        (1..1 << n).all(|w| self.at(w) == first).then_some(first)
-    }
 }
 
-// Byte j of those values.
-fn byte<F: Fn(u32) -> bool>(f: &F, j: usize) -> u8
+// Byte j of those values. Past their end it is 0 without a call.
+fn byte<F: Fn(u32) -> bool>(size: u32, f: &F, j: usize) -> u8
     requires below { j < BYTES }
     requires callable { F.IsAlwaysCallable f.now }
-    ensures { (g : Fn) → Computes (2 ^ MOST) (F.post f.now) g → result ≡ packed 8 (8 * j) g }
+    ensures { (g : Fn) → Computes (2 ^ MOST) (F.post f.now) g → EndsAt size g → result ≡ packed 8 (8 * j) g }
 {
+    if 8 * j as u32 >= size {
+        return 0;
+    }
     let mut byte = 0;
     // A `for`: of a fold, `fold-requires-clause-callable` stayed open, that its closure may be called at each turn.
     for k in (0..8).rev() {
         byte = 2 * byte + u8::from(f(8 * j as u32 + k));
     }
     byte
+}
+
+// A function of few variables, as a store keeps it: a constant needs no table.
+#[derive(Drop)]
+pub(super) enum Form {
+    Constant(bool),
+    Mixed(Truths),
+}
+
+impl Form {
+    // That of f, of n variables. No table is packed of a constant.
+    pub(super) fn of<F: Fn(u32) -> bool>(n: u8, f: F) -> Form
+        requires few { n ≤ MOST }
+        requires callable { F.IsAlwaysCallable f }
+        ensures { (g : Fn) → Computes (2 ^ n) (F.post f) g → FormOf n g result }
+    {
+        match constant(n, &f) {
+            Some(t) => Form::Constant(t),
+            None => Form::Mixed(Truths::of(n, f)),
+        }
+    }
+}
+
+// The constant that f is as a function of n variables, if it is one.
+fn constant<F: Fn(u32) -> bool>(n: u8, f: &F) -> Option<bool>
+    requires few { n ≤ MOST }
+    requires callable { F.IsAlwaysCallable f.now }
+    ensures { (g : Fn) → Computes (2 ^ n) (F.post f.now) g → Constant n g result }
+{
+    let first = f(0);
+    (1..1 << n).all(|w| f(w) == first).then_some(first)
 }

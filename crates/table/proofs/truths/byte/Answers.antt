@@ -1,5 +1,5 @@
 use Rattle.std.proofs.Common.{◌≡◌, ◌+◌, ◌-◌, ◌*◌, suc, sym, pow-suc, arith}
-use Rattle.table.proofs.Tables.{bool_low, packed_none, packed_more}
+use Rattle.table.proofs.Tables.{bool_low, packed_none, packed_past, packed_more}
 use Rattle.table.proofs.truths.byte.Goals as goal
 
 pub loop-k-init : goal.loop-k-init
@@ -13,3 +13,6 @@ loop-k-preserved g c =
       made = λ f h. rw c.from.ensures (packed_more c.args.j c.loop-k.k f c.loop-k.byte c.f.result c.loop-k-test.true c.loop-k.auto.k (c.loop-k.invariant.made f h)
           (h (8 * c.args.j + (c.loop-k.k - 1)) c.f.result (omega arith) c.f.ensures));
     }
+
+pub returns-then-j-size : goal.returns-then-j-size
+returns-then-j-size g c f h z = sym (packed_past 8 (8 * c.args.j) f (λ w l. z w (omega (arith, c.if-j-size.true))))

@@ -6,7 +6,7 @@ use Rattle.table.proofs.truths.Truths.packed.Goals as goal
 
 pub returns : goal.returns
 unfolding packed_truths
-returns g c f h =
+returns g c f h z =
     let byte = λ (j : ℕ). packed 8 (8 * j) f in
     ap (λ b. record { bytes = b })
     (fill_by_all byte c.from_fn.result 128 0 c.from_fn.ensures.items.long
