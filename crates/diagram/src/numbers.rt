@@ -1,5 +1,6 @@
 // What a diagram knows of its size and of its function numbers.
 ghost use Rattle.std.specs.Prelude.{◌≡◌, ◌+◌, ◌^◌, ◌<◌, ◌≤◌, length};
+ghost use Rattle.std.specs.Option.{option_map};
 ghost use Rattle.store.specs.Meaning.{Lawful};
 ghost use Rattle.nodes.specs.Graph.{node_under, value};
 ghost use Rattle.diagram.specs.Operands.{operand, half};
@@ -7,7 +8,6 @@ ghost use Rattle.diagram.specs.Shows.{listed, capacity, showing};
 
 use super::Diagram;
 use nodes::Node;
-use store::bits::bit;
 
 // A number with its node, which is read once. A number that has none has a leaf here, with the number of variables for
 // its variable and the number itself for its children.
@@ -59,11 +59,12 @@ impl Diagram<'_> {
     }
 
     // The node of a number, and none for a constant and for a number that is not held. A constant wraps to past every place.
-    fn node(&self, a: u16) -> Option<Node>
-        ensures { result ≡ node_under (listed self.now) a }
+    // Lent, since a copy of each node that it passes takes a walk down a diagram twice the time.
+    fn node(&self, a: u16) -> Option<&Node>
+        ensures { option_map (λ x. x.now) result ≡ node_under (listed self.now) a }
     {
         let place = usize::from(a).wrapping_sub(2);
-        self.nodes.get(place).copied()
+        self.nodes.get(place)
     }
 
     pub(super) fn operand(&self, a: u16) -> Operand
@@ -76,7 +77,7 @@ impl Diagram<'_> {
         };
         Operand {
             number: a,
-            node: self.node(a).unwrap_or(leaf),
+            node: self.node(a).copied().unwrap_or(leaf),
         }
     }
 
@@ -86,7 +87,7 @@ impl Diagram<'_> {
     {
         let mut at = a;
         while let Some(node) = self.node(at) {
-            at = node.child(bit(w, node.variable));
+            at = node.child((w >> node.variable) % 2 == 1);
         }
         at == 1
     }

@@ -16,6 +16,6 @@ pub returns : goal.returns
 returns c =
     let d = c.args.self.now in
     let xs = listed d in
-    c.copied.ensures ∙ c.get.ensures
+    c.get.ensures
     ∙ ap (λ n. slice_get xs ((n + 18446744073709551614) % 18446744073709551616)) c.from-place.ensures
     ∙ at xs (omega (arith, few_of d, d.small)) c.args.a (omega (arith, c.ranges.a.fits))
