@@ -58,8 +58,8 @@ impl Diagram<'_> {
         1 << self.n
     }
 
-    // The node of a number, and none for a constant and for a number that is not held. A constant wraps to past every place.
-    // Lent, since a copy of each node that it passes takes a walk down a diagram twice the time.
+    // The node of a number, and none for a constant, which wraps to past every place, and for a number that is not held.
+    // Lent: a walk down a diagram that copied each node, and tested that its variable has a bit, took twice the time.
     fn node(&self, a: u16) -> Option<&Node>
         ensures { option_map (λ x. x.now) result ≡ node_under (listed self.now) a }
     {

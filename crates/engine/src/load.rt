@@ -1,5 +1,5 @@
 // The call that takes a circuit and its claims.
-ghost use Rattle.std.specs.Prelude.{◌≡◌, true, is_err};
+ghost use Rattle.std.specs.Prelude.{◌≡◌, true, is_err, None};
 ghost use Rattle.uses.specs.Calls.{load};
 ghost use Rattle.engine.specs.Keeping.{world, Next};
 ghost use Rattle.engine.specs.Loading.{BeginsFrom};
@@ -38,6 +38,16 @@ impl<S: Store> Session<S> {
         if self.search.is_some() {
             return Err(Fault::Loaded);
         }
+        self.load_first(source)
+    }
+
+    // The same where nothing is loaded. Not inlined, since its frame is large, and a refusal of what is loaded needs none.
+    #[inline(never)]
+    fn load_first(&mut self, source: Source) -> Result<Verdict, Fault>
+        requires { self.old.search ≡ None }
+        ensures next { Next (world S.Store.shows self.old) (load source.entry.circuit.now source.entry.assumption.now source.entry.property.now result) (world S.Store.shows self.new) }
+        ensures refused { is_err result ≡ true → self.new.search ≡ self.old.search }
+    {
         let width = self.store.figures().variables;
         let described = describe(source, width)?;
         let built = build(&mut self.store, &described)?;

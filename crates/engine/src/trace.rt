@@ -27,11 +27,12 @@ impl Search {
         ensures walks { Walks (S.Store.shows store.old) self.now result states.new inputs.new }
     {
         let depth = self.earlier.len();
-        states[0] = smallest(
+        let first = smallest(
             store,
             self.states(),
             |store, state| self.begins_in(store, self.last.set, state),
         )?;
+        states[0] = first;
         for t in 0..depth {
             let state = states[t];
             let set = self.earlier.as_slice()[depth - t - 1];
@@ -44,11 +45,12 @@ impl Search {
             states[t + 1] = self.next_state(store, Step { state, input })?;
         }
         let state = states[depth];
-        inputs[depth] = smallest(
+        let last = smallest(
             store,
             self.inputs(),
             |store, input| self.at_fault(store, Step { state, input }),
         )?;
+        inputs[depth] = last;
         Ok(())
     }
 }

@@ -3,3 +3,4 @@ mod Calls
 pub mod Lists
 mod Permute
 pub mod Rename
+mod Seen

@@ -1,10 +1,6 @@
 -- A list that holds each number below n once is a permutation of these.
-use Rattle.std.proofs.Common.{◌≡◌, ℕ, zero, suc, ◌+◌, ◌<◌, ◌≤◌, true, false, Bool, ◌&&◌, cond, eqb, ltb, List, [], ◌∷◌, ◌++◌, length, get_or, Decides, count_by, map, add-one, sym, refl, ap, ◌∙◌, subst, ⊎_elim, arith}
-use Rattle.std.specs.List.{range_with_len, list_all}
-use Rattle.std.proofs.lemmas.List.{map-id, get_or_default, get_or_past}
-use Rattle.std.proofs.Math.Bool.{and_comm, and-true}
-use Rattle.std.proofs.lemmas.List.FromFn.{map-range_with_len_more}
-use Rattle.std.proofs.lemmas.List.Folds.{list_all-append}
+use Rattle.std.proofs.Common.{◌≡◌, ℕ, zero, suc, ◌+◌, ◌<◌, ◌≤◌, true, false, ◌&&◌, cond, eqb, ltb, List, [], ◌∷◌, length, get_or, Decides, count_by, sym, refl, ap, ◌∙◌, subst, ⊎_elim, arith}
+use Rattle.std.proofs.lemmas.List.{get_or_default, get_or_past}
 use Rattle.std.proofs.lemmas.List.Sums.{sum_by-cons, count_by-le-length}
 use Rattle.std.proofs.lemmas.Bool.{cases_eq, eq-eqb, ne_eqb, lt-ltb, le-ltb, cases_lt, cases_Bool, and_from, and_parts, ltb-true, and_left, and_right, cond-true, cond-false}
 use Rattle.std.proofs.lemmas.Bool.Decides.{Decides-below_and, Decides-eqb, Decides-and, nat_tests}
@@ -18,15 +14,6 @@ unfolding is_order
 is_order_tells n xs = Decides-and _ _ (Decides-eqb (length xs) n)
     (Decides-below_and (λ j. eqb (times j xs) 1) (λ j. times j xs ≡ 1) (each (λ j. eqb (times j xs) 1)) (λ j. Decides-eqb (times j xs) 1) refl (λ _. refl) n)
 
--- the numbers below n + 1 in their order: those below n, and n
-pub range_more : (n : ℕ) → range_with_len 0 (suc n) ≡ range_with_len 0 n ++ n ∷ []
-range_more n = sym (map-id (range_with_len 0 (suc n))) ∙ ap (λ k. map (λ x. x) (range_with_len 0 k)) (sym (add-one n)) ∙ map-range_with_len_more (λ x. x) 0 n n (omega arith) ∙ ap (λ xs. xs ++ n ∷ []) (map-id (range_with_len 0 n))
-
--- a test of each number below n is one of the numbers in their order
-pub each_range : (p : ℕ → Bool) (n : ℕ) → list_all p (range_with_len 0 n) ≡ each p n
-each_range p zero = refl
-each_range p (suc n) = ap (list_all p) (range_more n) ∙ list_all-append p (range_with_len 0 n) (n ∷ []) ∙ rw (each_range p n) (ap (λ b. each p n && b) (and-true (p n)) ∙ and_comm (each p n) (p n))
-
 pub short : (n : ℕ) (xs : List ℕ) → is_order n xs ≡ true → n ≤ 24 → 24 < length xs → ⊥
 short n xs e h l = omega (arith, ((is_order_tells n xs).0 e).0)
 
@@ -35,7 +22,7 @@ pub order_itself : (n : ℕ) (xs ys : List ℕ) → is_order n xs ≡ true → y
 order_itself n xs ys e h = subst (λ (zs : List ℕ). is_order (length zs) zs ≡ true) (sym h) (ap (λ k. is_order k xs) ((is_order_tells n xs).0 e).0 ∙ e)
 
 -- the first entry of a list, counted
-times_cons : (j x : ℕ) (xs : List ℕ) → times j (x ∷ xs) ≡ cond (eqb x j) 1 0 + times j xs
+pub times_cons : (j x : ℕ) (xs : List ℕ) → times j (x ∷ xs) ≡ cond (eqb x j) 1 0 + times j xs
 times_cons j x xs = sum_by-cons (λ y. cond (eqb y j) 1 0) x xs
 
 found : (xs : List ℕ) (j : ℕ) → 1 ≤ times j xs → (i : ℕ) × ((i < length xs) × (get_or xs i 0 ≡ j))
@@ -157,3 +144,31 @@ permutes_order n xs = ⊎_elim
 
 pub order_below : (n : ℕ) (xs : List ℕ) (i : ℕ) → i < n → order_of n xs i < n
 order_below n xs i h = (permutes_order n xs).within i h
+
+small_least : (n : ℕ) (xs : List ℕ) → ((j : ℕ) → j < n → 1 ≤ times j xs) → n ≤ small n xs
+small_least zero xs h = omega arith
+small_least (suc n) xs h = omega (arith, small_suc n xs, h n (omega arith), small_least n xs (λ j l. h j (omega arith)))
+
+-- where no number below n is missing, a list that is no longer has each once
+ones_small : (n : ℕ) (xs : List ℕ) → ((j : ℕ) → j < n → 1 ≤ times j xs) → small n xs ≤ n → (j : ℕ) → j < n → times j xs ≡ 1
+ones_small zero xs h l j i = absurd (omega arith)
+ones_small (suc n) xs h l j i =
+    let below : (k : ℕ) → k < n → 1 ≤ times k xs = λ k m. h k (omega arith) in
+    let least = small_least n xs below in
+    let more = small_suc n xs in
+    let here = h n (omega arith) in
+    ⊎_elim
+    (λ e. let last : times n xs ≡ 1 = omega arith in subst (λ (k : ℕ). times k xs ≡ 1) (sym e) last)
+    (λ d. ones_small n xs below (omega arith) j (omega arith))
+    (cases_eq j n)
+
+pub ones : (n : ℕ) (xs : List ℕ) → length xs ≡ n → ((j : ℕ) → j < n → 1 ≤ times j xs) → (j : ℕ) → j < n → times j xs ≡ 1
+ones n xs e h = ones_small n xs h (omega (arith, count_by-le-length (λ y. ltb y n) xs))
+
+-- a list of n entries that has each number below n once has no other
+pub no_other : (n : ℕ) (xs : List ℕ) → length xs ≡ n → ((j : ℕ) → j < n → times j xs ≡ 1) → (k : ℕ) → n ≤ k → times k xs ≡ 0
+no_other n xs e h k l = ⊎_elim
+    (λ some. let f = found xs k some in
+    absurd (omega (arith, f.1.1, all_small n xs f.0 (omega (arith, small_all n xs h)) f.1.0)))
+    (λ none. omega arith)
+    (cases_lt 0 (times k xs))

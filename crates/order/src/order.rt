@@ -1,5 +1,6 @@
 // The order of a layer's variables.
-ghost use Rattle.std.specs.Prelude.{◌≡◌, ◌≤◌, true, false, [], length, MatchOption};
+ghost use Rattle.std.specs.Prelude.{◌≡◌, ℕ, ◌<◌, ◌≤◌, true, false, [], length, nat_lt, MatchOption};
+ghost use Rattle.store.specs.Fun.{bit};
 ghost use Rattle.order.specs.Listing.{times, is_order, place};
 ghost use Rattle.order.specs.Renaming.{placed, task_below};
 
@@ -17,18 +18,19 @@ pub(super) struct Order {
     ghost once: { is_order (length places.items) places.items ≡ true },
 }
 
-// How often j stands in the list.
-fn times(p: &[u8], j: u8) -> usize
-    ensures { result ≡ times j p.now }
+// The numbers of the list, as the bits of a word; numbers past bit 31 have none.
+fn seen(p: &[u8]) -> u32
+    ensures { (j : ℕ) → j < 32 → bit j result ≡ nat_lt 0 (times j p.now) }
 {
-    p.iter().filter(|x| **x == j).count()
+    p.iter().fold(0, |word, x| with_bit(word, *x, true))
 }
 
-// Whether the list holds each number below n once, and no other.
+// Whether the list holds each number below n once, and no other: a list of n entries in which none is missing does.
 pub(super) fn is_order(n: u8, p: &[u8]) -> bool
+    requires { n ≤ MOST }
     ensures { result ≡ is_order n p.now }
 {
-    p.len() == usize::from(n) && (0..n).all(|j| times(p, j) == 1)
+    p.len() == usize::from(n) && seen(p) == (1 << n) - 1
 }
 
 // The order of no variables. A struct with a ghost field derives no Default.

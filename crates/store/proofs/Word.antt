@@ -1,7 +1,9 @@
 -- Bits of a word of 32 bits, as the code sets and reads them.
-use Rattle.std.proofs.Common.{◌≡◌, ℕ, zero, suc, ◌-◌, ◌/◌, ◌%◌, ◌^◌, ◌<◌, ◌≤◌, true, false, eqb, ap, ◌∙◌, mod-eq_of_lt, pow-suc, arith}
+use Rattle.std.proofs.Common.{◌≡◌, ℕ, zero, suc, ◌+◌, ◌-◌, ◌*◌, ◌/◌, ◌%◌, ◌^◌, ◌<◌, ◌≤◌, Bool, true, false, cond, eqb, refl, ap, ◌∙◌, mod-eq_of_lt, pow-suc, arith}
+use mir.Val.{bool_byte}
 use lib.Bits.{bit_and, bit_or, and_step, or_step, or_zero_r, and_mask}
-use Rattle.std.proofs.lemmas.Nat.{pow_pos, pow_below}
+use Rattle.std.proofs.lemmas.Nat.{one_shl, pow_pos, pow_below}
+use Rattle.std.proofs.lemmas.Bool.Decides.{nat_tests}
 use Rattle.store.specs.Fun.{bit, fixed}
 
 -- a number has no bits past its own
@@ -35,3 +37,25 @@ and_unit (suc m) (suc i) v h l =
     let half : (2 ^ suc m - 1 - 2 ^ suc i) / 2 ≡ 2 ^ m - 1 - 2 ^ i = omega arith in
     let odd : (2 ^ suc m - 1 - 2 ^ suc i) % 2 ≡ 1 = omega arith in
     and_step v (2 ^ suc m - 1 - 2 ^ suc i) ∙ rw (half, odd, and_unit m i (v / 2) (omega arith) (omega arith)) (omega arith)
+
+-- a bit that is set twice is as it was set last
+fixed_again : (i : ℕ) (t u : Bool) (v : ℕ) → fixed i t (fixed i u v) ≡ fixed i t v
+fixed_again zero t u v =
+    let c : cond u 1 0 ≤ 1 = grind (arith, nat_tests) in
+    let half : fixed zero u v / 2 ≡ v / 2 = omega arith in
+    ap (λ k. 2 * k + cond t 1 0) half
+fixed_again (suc i) t u v =
+    let half : fixed (suc i) u v / 2 ≡ fixed i u (v / 2) = omega arith in
+    let odd : fixed (suc i) u v % 2 ≡ v % 2 = omega arith in
+    rw (half, odd, fixed_again i t u (v / 2)) refl
+
+-- a truth, as a number, that is set where the bit was cleared
+pub or_truth : (i v x : ℕ) (t : Bool) → i < 32 → x ≡ bool_byte t → bit_or (fixed i false v) (x * 2 ^ i % 4294967296) ≡ fixed i t v
+or_truth i v x true h e =
+    ap (λ k. bit_or (fixed i false v) (k * 2 ^ i % 4294967296)) e
+    ∙ ap (bit_or (fixed i false v)) (one_shl i 32 h)
+    ∙ or_unit i (fixed i false v)
+    ∙ fixed_again i true false v
+or_truth i v x false h e =
+    let none : x * 2 ^ i % 4294967296 ≡ 0 = rw e (omega arith) in
+    ap (bit_or (fixed i false v)) none ∙ or_zero_r (fixed i false v)

@@ -15,10 +15,8 @@ pub fn with_bit(w: u32, i: u8, t: bool) -> u32
     ensures past { 32 ≤ i → result ≡ w }
 {
     if i >= 32 {
-        w
-    } else if t {
-        w | 1 << i
-    } else {
-        w & !(1 << i)
+        return w;
     }
+    let cleared = w & !(1 << i);
+    cleared | u32::from(t) << i
 }

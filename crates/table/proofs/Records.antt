@@ -1,5 +1,5 @@
 -- The records of the numbers of a sound list of tables.
-use Rattle.std.proofs.Common.{◌≡◌, ℕ, zero, suc, ◌+◌, ◌<◌, ◌≤◌, true, List, length, get_or, Some, Option, sym, ap, ◌∙◌, subst, ⊎_elim, arith}
+use Rattle.std.proofs.Common.{◌≡◌, ℕ, suc, ◌+◌, ◌<◌, true, List, length, get_or, Some, Option, sym, ap, ◌∙◌, subst, ⊎_elim, arith}
 use Rattle.std.specs.List.{slice_get}
 use Rattle.std.proofs.ByRecursion.{All-get_or}
 use Rattle.std.proofs.lemmas.Option.{slice_get-get_or, slice_get_past}
@@ -7,7 +7,7 @@ use Rattle.std.proofs.lemmas.Bool.{cases_lt, lt-ltb, le-ltb}
 use Rattle.table.specs.declared.truths.Truths.{Truths}
 use Rattle.table.specs.Tables.{truth, table}
 use Rattle.table.specs.Shows.{kept, shown, sound}
-use Rattle.table.specs.Records.{IsRecord, RecordOf, record_at}
+use Rattle.table.specs.Records.{IsRecord, RecordOf}
 use Rattle.table.proofs.Tables.{table_past, table_size}
 use Rattle.table.proofs.Sound.{sound_tells}
 

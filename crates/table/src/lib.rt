@@ -67,19 +67,26 @@ impl<'a> Table<'a> {
         let place = usize::from(a).checked_sub(2)?;
         self.list.get(place)
     }
+
+    // How many functions were made.
+    fn made(&self) -> usize
+        ensures { result ≡ length (entries self.now.list) }
+    {
+        self.list.len()
+    }
 }
 
 impl Store for Table<'_> {
     ghost shows = { λ d. showing d.n d.list };
 
     fn answer(&mut self, task: Task) -> Result<u16, Refusal> {
-        task.check(self.list.len(), self.n)?;
+        task.check(self.made(), self.n)?;
         self.make(task)
     }
 
     // Each make says this: said once, the trait would need the truth of any number, held or not, and that numbers are held in a row.
     fn value(&mut self, a: u16, w: u32) -> Result<bool, Refusal> {
-        check_value(a, w, self.list.len(), self.n)?;
+        check_value(a, w, self.made(), self.n)?;
         Ok(self.truth(a, w))
     }
 
@@ -87,7 +94,7 @@ impl Store for Table<'_> {
     fn figures(&mut self) -> Figures {
         Figures {
             variables: self.n,
-            used: self.list.len() as u32,
+            used: self.made() as u32,
             capacity: self.list.capacity() as u32,
             top_price: 1,
         }

@@ -1,20 +1,20 @@
-use Rattle.std.proofs.Common.{ℕ, ◌∙◌, ◌&&◌, Bool, eqb, refl, sym, ap, rules, arith, length}
+use Rattle.std.proofs.Common.{ℕ, ◌∙◌, ◌-◌, ◌&&◌, eqb, refl, sym, ap, length, rules, arith}
 use Rattle.std.proofs.lemmas.Bool.{eq-eqb, ne_eqb}
-use Rattle.std.proofs.lemmas.Iterator.{YieldsList-from_range}
-use Rattle.std.proofs.lemmas.Iterator.Search.{all_from_yields_List}
-use borrow.Author.Tests.{tests}
+use Rattle.std.proofs.lemmas.Nat.{one_shl}
 use Rattle.store.specs.Fun.{each}
 use Rattle.order.specs.Listing.{times, is_order}
-use Rattle.order.proofs.Lists.{each_range}
+use Rattle.order.proofs.Seen.{seen_all}
 use Rattle.order.proofs.order.is_order.Goals as goal
 
 pub returns-then-p-from : goal.returns-then-p-from
 unfolding is_order
 returns-then-p-from c =
     let p = c.args.p.now in
-    let one : ℕ → Bool = λ j. eqb (times j p) 1 in
-    all_from_yields_List one _ _ c.all.result c.all.ensures.ran (YieldsList-from_range 0 c.args.n c.args.n (cc) (omega arith)) (λ x b q k. search (rules, tests))
-    ∙ each_range one c.args.n ∙ sym (ap (λ b. b && each one c.args.n) (eq-eqb (length p) c.args.n (c.if-p-from.true ∙ c.from.ensures)))
+    let n = c.args.n in
+    let long = c.if-p-from.true ∙ c.from.ensures in
+    ap (λ k. eqb c.seen.result (k - 1)) (one_shl n 32 (omega (arith, c.requires)))
+    ∙ seen_all n p c.seen.result c.requires long (search rules) c.seen.ensures
+    ∙ sym (ap (λ b. b && each (λ (j : ℕ). eqb (times j p) 1) n) (eq-eqb (length p) n long))
 
 pub returns-else-p-from : goal.returns-else-p-from
 unfolding is_order

@@ -1,4 +1,4 @@
-use Rattle.std.proofs.Common.{◌≡◌, ◌^◌, ◌≤◌, sym, ◌∙◌, pow_mono, arith}
+use Rattle.std.proofs.Common.{◌^◌, ◌≤◌, sym, ◌∙◌, pow_mono, arith}
 use Rattle.std.proofs.lemmas.Bool.{lt-ltb, le-leb}
 use Rattle.store.proofs.task.is_valuation.Goals as goal
 

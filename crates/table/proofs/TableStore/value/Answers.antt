@@ -10,11 +10,11 @@ pub returns-in_err-check_value-clause-told : goal.returns-in_err-check_value-cla
 returns-in_err-check_value-clause-told c =
     let d = c.args.self.now in
     let p = err_from_is_err_and c.from_residual.result c.from_residual.ensures.1 in
-    let e = ap (λ h. allowed (nat_lt c.args.a (h + 2)) (nat_lt c.args.w (2 ^ d.n))) (sym c.len.ensures) ∙ sym c.check_value.ensures ∙ c.in_err-check_value.was in
+    let e = ap (λ h. allowed (nat_lt c.args.a (h + 2)) (nat_lt c.args.w (2 ^ d.n))) (sym c.made.ensures) ∙ sym c.check_value.ensures ∙ c.in_err-check_value.was in
     rw (p.1, p.2) (value_refused (shows d) c.args.a c.args.w _ (lawful_table d) e)
 
 pub returns-clause-told : goal.returns-clause-told
 returns-clause-told c =
     let d = c.args.self.now in
-    let e = ap (λ h. allowed (nat_lt c.args.a (h + 2)) (nat_lt c.args.w (2 ^ d.n))) (sym c.len.ensures) ∙ sym c.check_value.ensures ∙ c.in_ok-check_value.was in
+    let e = ap (λ h. allowed (nat_lt c.args.a (h + 2)) (nat_lt c.args.w (2 ^ d.n))) (sym c.made.ensures) ∙ sym c.check_value.ensures ∙ c.in_ok-check_value.was in
     value_told (shows d) c.args.a c.args.w c.truth.result (lawful_table d) e c.truth.ensures

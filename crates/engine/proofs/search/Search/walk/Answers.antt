@@ -24,16 +24,16 @@ begins : (g : _) (c : After-smallest g) (m : Model) (j : ℕ) → Sets m j (g.S.
     → Finds (2 ^ (system m).registers) (initial_in (system m) (bad (system m) j)) c.smallest.result
 begins g c m j h = start m j _ c.args.self.now h g.S.Store.shows _ _ c.smallest.result c.smallest.ensures.finds c.states.ensures (λ a b x o p. search rules)
 
-pub returns-in_err-states-clause-walks : goal.returns-in_err-states-clause-walks
-returns-in_err-states-clause-walks g c m j h r e = absurd (lost _ _ _ (begins g (goal.at.returns-in_err-states-clause-walks g c).After-smallest m j h) (traces (system m) (closed m) j r e).begins c.in_err-states.was)
+pub returns-in_err-first-clause-walks : goal.returns-in_err-first-clause-walks
+returns-in_err-first-clause-walks g c m j h r e = absurd (lost _ _ _ (begins g (goal.at.returns-in_err-first-clause-walks g c).After-smallest m j h) (traces (system m) (closed m) j r e).begins c.in_err-first.was)
 
 pub loop-t-init : goal.loop-t-init
 loop-t-init g c = (
   refl,
   spares_none _ _ _,
   λ m j h r e.
-      starts (system m) j c.args.states.now c.args.inputs.now c.in_ok-states.field-0 (omega (arith, c.requires.states_fit))
-      (found _ _ _ (begins g (goal.at.loop-t-init g c).After-smallest m j (sets_still m j c.args.self.now _ _ (sym c.smallest.ensures.same) h)) c.in_ok-states.was),
+      starts (system m) j c.args.states.now c.args.inputs.now c.in_ok-first.first (omega (arith, c.requires.states_fit))
+      (found _ _ _ (begins g (goal.at.loop-t-init g c).After-smallest m j (sets_still m j c.args.self.now _ _ (sym c.smallest.ensures.same) h)) c.in_ok-first.was),
 )
 
 -- in the loop, at the store where it stands
@@ -95,11 +95,11 @@ returns-in_err-input-clause-walks g c m j h r e =
     let h' = sets_still m j c.args.self.now _ _ c.smallest.ensures.same h in
     absurd (lost _ _ _ (leads g b m j h' r e) (leads_on g b m j h' r e) c.in_err-input.was)
 
-pub returns-in_err-states-2-clause-walks : goal.returns-in_err-states-2-clause-walks
-returns-in_err-states-2-clause-walks g c m j h r e =
-    let b = (goal.at.returns-in_err-states-2-clause-walks g c).After-smallest-in-loop-t in
+pub returns-in_err-states-clause-walks : goal.returns-in_err-states-clause-walks
+returns-in_err-states-clause-walks g c m j h r e =
+    let b = (goal.at.returns-in_err-states-clause-walks g c).After-smallest-in-loop-t in
     let h' = sets_still m j c.args.self.now _ _ c.smallest.ensures.same h in
-    refused (sym c.in_err-states-2.was ∙ moves g b m j h' r e c.in_ok-input.input c.in_ok-input.was _ c.smallest-in-loop-t.ensures.same _ c.next_state.ensures.goes)
+    refused (sym c.in_err-states.was ∙ moves g b m j h' r e c.in_ok-input.input c.in_ok-input.was _ c.smallest-in-loop-t.ensures.same _ c.next_state.ensures.goes)
 
 pub loop-t-preserved : goal.loop-t-preserved
 loop-t-preserved g c =
@@ -108,10 +108,10 @@ loop-t-preserved g c =
     let l = c.loop-t-test.true in
     let n = c.len-depth.ensures.items in (
       c.next_state.ensures.same ∙ c.smallest-in-loop-t.ensures.same ∙ c.loop-t.invariant.0,
-      spares_state d _ _ c.loop-t.states (set_at c.loop-t.inputs c.loop-t.t c.in_ok-input.input) (c.loop-t.t + 1) c.in_ok-states-2.field-0 (omega (arith, l, n))
+      spares_state d _ _ c.loop-t.states (set_at c.loop-t.inputs c.loop-t.t c.in_ok-input.input) (c.loop-t.t + 1) c.in_ok-states.field-0 (omega (arith, l, n))
           (spares_input d _ _ c.loop-t.states c.loop-t.inputs c.loop-t.t c.in_ok-input.input (omega (arith, l, n)) c.loop-t.invariant.1),
-      λ m j h r e. goes_on g b m j h r e c.in_ok-input.input c.in_ok-input.was _ c.smallest-in-loop-t.ensures.same _ c.next_state.ensures.goes c.in_ok-states-2.field-0 c.in_ok-states-2.was
-          (omega (arith, l, n, c.loop-t.invariant.1.states_long, length-set c.args.states.now 0 c.in_ok-states.field-0, c.requires.states_fit))
+      λ m j h r e. goes_on g b m j h r e c.in_ok-input.input c.in_ok-input.was _ c.smallest-in-loop-t.ensures.same _ c.next_state.ensures.goes c.in_ok-states.field-0 c.in_ok-states.was
+          (omega (arith, l, n, c.loop-t.invariant.1.states_long, length-set c.args.states.now 0 c.in_ok-first.first, c.requires.states_fit))
           (omega (arith, l, n, c.loop-t.auto.inputs, c.requires.inputs_fit)),
     )
 
@@ -142,25 +142,25 @@ module _ (g : _) (c : After-smallest-2 g) (m : Model) (j : ℕ) (h : Sets m j (g
   faults_there = subst (λ n. some (faulty (system m) (at c.loop-t.states n)) (2 ^ (system m).inputs) ≡ true) (sym at_end)
       ((traces (system m) (closed m) j r e).ends _ _ (subst (λ n. TraceTo (system m) j n (at c.loop-t.states) (at c.loop-t.inputs)) at_end whole))
 
-pub returns-in_err-inputs-clause-walks : goal.returns-in_err-inputs-clause-walks
-returns-in_err-inputs-clause-walks g c m j h r e =
-    let b = (goal.at.returns-in_err-inputs-clause-walks g c).After-smallest-2 in
-    absurd (lost _ _ _ (faults g b m j h r e) (faults_there g b m j h r e) c.in_err-inputs.was)
+pub returns-in_err-last-clause-walks : goal.returns-in_err-last-clause-walks
+returns-in_err-last-clause-walks g c m j h r e =
+    let b = (goal.at.returns-in_err-last-clause-walks g c).After-smallest-2 in
+    absurd (lost _ _ _ (faults g b m j h r e) (faults_there g b m j h r e) c.in_err-last.was)
 
 pub returns-clause-spares : goal.returns-clause-spares
 returns-clause-spares g c =
     let d = length c.args.self.now.earlier.items in
     let x = c.args.states.now in
     let y = c.args.inputs.now in
-    let x' = set_at x 0 c.in_ok-states.field-0 in
+    let x' = set_at x 0 c.in_ok-first.first in
     let n = c.len-depth.ensures.items in
-    spares_input d x y c.loop-t.states c.loop-t.inputs c.len-depth.result c.in_ok-inputs.field-0 (omega (arith, n))
-    (spares_both d x y x' y c.loop-t.states c.loop-t.inputs (spares_state d x y x y 0 c.in_ok-states.field-0 (omega arith) (spares_none d x y)) c.loop-t.invariant.1)
+    spares_input d x y c.loop-t.states c.loop-t.inputs c.len-depth.result c.in_ok-last.last (omega (arith, n))
+    (spares_both d x y x' y c.loop-t.states c.loop-t.inputs (spares_state d x y x y 0 c.in_ok-first.first (omega arith) (spares_none d x y)) c.loop-t.invariant.1)
 
 pub returns-clause-walks : goal.returns-clause-walks
 returns-clause-walks g c m j h r e =
     let b = (goal.at.returns-clause-walks g c).After-smallest-2 in (
       refl,
-      finishes (system m) j _ c.loop-t.states c.loop-t.inputs (whole g b m j h r e) c.in_ok-inputs.field-0 (at_end g b m j h r e)
-          (omega (arith, c.len-depth.ensures.items, c.requires.inputs_fit, c.loop-t.auto.inputs)) (found _ _ _ (faults g b m j h r e) c.in_ok-inputs.was),
+      finishes (system m) j _ c.loop-t.states c.loop-t.inputs (whole g b m j h r e) c.in_ok-last.last (at_end g b m j h r e)
+          (omega (arith, c.len-depth.ensures.items, c.requires.inputs_fit, c.loop-t.auto.inputs)) (found _ _ _ (faults g b m j h r e) c.in_ok-last.was),
     )

@@ -31,7 +31,7 @@ returns-then-min-entries-clause-next g c =
     let w = world g.S.Store.shows c.args.self.now in
     let x = c.args.states.now in
     let y = c.args.inputs.now in
-    subst (λ n. Next w (trace x y x y (Err (fault.Short (n + 1)))) w) (sym c.len-entries.ensures.items)
+    subst (λ n. Next w (trace x y x y (Err (fault.Short n))) w) (omega (arith, c.len-entries.ensures.items))
     (when_short w c.in_ok-search.search.now (loaded g b) x y c.in-Unsafe.field-0 c.in-Unsafe.is (λ lx ly. absurd (omega arith)))
 
 pub returns-clause-next : goal.returns-clause-next
