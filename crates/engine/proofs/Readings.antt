@@ -10,7 +10,7 @@ use Rattle.making.specs.Making.{Means, unpaired}
 use Rattle.making.specs.Loads.{registers_of}
 use Rattle.runs.specs.Functions.{spread}
 use Rattle.runs.specs.Valuations.{set_fn}
-use Rattle.runs.specs.Models.{Model, system, Valid}
+use Rattle.runs.specs.Models.{Model, system}
 use Rattle.runs.specs.Search.{bad}
 use Rattle.runs.specs.Systems.{State, Input}
 use Rattle.runs.proofs.Models.{closed, functions_exact}

@@ -1,5 +1,5 @@
 -- Valuations under a permutation of the variables.
-use Rattle.std.proofs.Common.{◌≡◌, ℕ, zero, suc, ◌+◌, add-zero, add-one, List, length, get_or, ◌^◌, ◌<◌, ◌≤◌, Bool, cond, ltb, [], ◌∷◌, sym, ap, ap₂, ◌∙◌, subst, ⊎_elim, arith}
+use Rattle.std.proofs.Common.{◌≡◌, ℕ, zero, suc, ◌+◌, ◌%◌, mod-eq_of_lt, add-zero, add-one, List, length, get_or, ◌^◌, ◌<◌, ◌≤◌, Bool, cond, ltb, [], ◌∷◌, sym, ap, ap₂, ◌∙◌, subst, ⊎_elim, arith}
 use Rattle.std.proofs.lemmas.Bool.{cases_eq, cases_lt, lt-ltb, le-ltb, cond-true, cond-false}
 use Rattle.std.specs.List.{range_with_len, fold, zip}
 use Rattle.store.specs.Fun.{Fn, bit, fixed, fix, Same}
@@ -21,7 +21,7 @@ put_is {j} {i} {t} {u} v r e b within past = ⊎_elim
 
 -- the valuation below, made bit after bit from bit j on: xs has the p(i) that are left
 pub placed_from : (p : ℕ → ℕ) (w j m : ℕ) (xs : List ℕ) → length xs ≤ m → ((i : ℕ) → i < length xs → (get_or xs i 0 ≡ p (j + i)) × (p (j + i) < 32))
-    → fold (λ v q. put q.1 (bit q.0 w) v) (placed p j w) (zip (range_with_len j m) xs) ≡ placed p (j + length xs) w
+    → fold (λ v q. put (q.1 % 32) (bit q.0 w) v) (placed p j w) (zip (range_with_len j m) xs) ≡ placed p (j + length xs) w
 placed_from p w j zero [] l h = ap (λ k. placed p k w) (sym (add-zero j))
 placed_from p w j (suc m) [] l h = ap (λ k. placed p k w) (sym (add-zero j))
 placed_from p w j zero (x ∷ xs) l h = absurd (omega arith)
@@ -29,10 +29,11 @@ placed_from p w j (suc m) (x ∷ xs) l h =
     let here = h 0 (omega arith) in
     let is : x ≡ p j = here.0 ∙ ap p (add-zero j) in
     let low : p j < 32 = subst (λ (k : ℕ). p k < 32) (add-zero j) here.1 in
-    let put_here : put x (bit j w) (placed p j w) ≡ placed p (suc j) w =
-    ap (λ k. put k (bit j w) (placed p j w)) is ∙ cond-true _ (fixed (p j) (bit j w) (placed p j w)) (placed p j w) (lt-ltb (p j) 32 low) in
+    let whole : x % 32 ≡ p j = ap (λ k. k % 32) is ∙ mod-eq_of_lt low in
+    let put_here : put (x % 32) (bit j w) (placed p j w) ≡ placed p (suc j) w =
+    ap (λ k. put k (bit j w) (placed p j w)) whole ∙ cond-true _ (fixed (p j) (bit j w) (placed p j w)) (placed p j w) (lt-ltb (p j) 32 low) in
     let then : (i : ℕ) → j + suc i ≡ suc j + i = λ i. omega arith in
-    ap₂ (λ v k. fold (λ v q. put q.1 (bit q.0 w) v) v (zip (range_with_len k m) xs)) put_here (add-one j)
+    ap₂ (λ v k. fold (λ v q. put (q.1 % 32) (bit q.0 w) v) v (zip (range_with_len k m) xs)) put_here (add-one j)
     ∙ placed_from p w (suc j) m xs (omega arith)
     (λ i s. subst (λ (k : ℕ). (get_or xs i 0 ≡ p k) × (p k < 32)) (then i) (h (suc i) (omega arith)))
     ∙ ap (λ k. placed p k w) (sym (then (length xs)))

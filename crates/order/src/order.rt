@@ -75,12 +75,12 @@ impl Order {
         }
     }
 
-    // The valuation below for w.
+    // The valuation below for w. A place is below 32: the remainder spares the test that it is.
     pub(super) fn valuation_below(&self, w: u32) -> u32
         ensures { result ≡ placed (place self.now.places.items) (length self.now.places.items) w }
     {
         (0..MOST_VARIABLES)
             .zip(self.places.as_slice())
-            .fold(w, |v, (i, place)| with_bit(v, *place, bit(w, i)))
+            .fold(w, |v, (i, place)| with_bit(v, *place % 32, bit(w, i)))
     }
 }

@@ -1,4 +1,4 @@
-use Rattle.std.proofs.Common.{◌≡◌, ◌+◌, Some, Err, sym, subst, arith}
+use Rattle.std.proofs.Common.{◌≡◌, Some, Err, sym, subst, arith}
 use Rattle.std.specs.Borrow.{Bor}
 use Rattle.store.specs.Meaning.{Shown}
 use Rattle.uses.specs.declared.fault.Fault.TheVariants as fault

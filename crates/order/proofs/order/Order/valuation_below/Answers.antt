@@ -1,4 +1,4 @@
-use Rattle.std.proofs.Common.{◌≡◌, ℕ, ◌<◌, ◌≤◌, length, get_or, zero-add, sym, refl, ap, ◌∙◌, subst, rules, arith}
+use Rattle.std.proofs.Common.{◌≡◌, ℕ, ◌%◌, ◌<◌, ◌≤◌, length, get_or, zero-add, sym, refl, ap, ◌∙◌, subst, rules, arith}
 use Rattle.std.proofs.lemmas.List.{get_or_default}
 use Rattle.std.proofs.lemmas.Iterator.{YieldsList-from_range, YieldsList-from_slice, YieldsList-from_zip}
 use Rattle.std.proofs.lemmas.Iterator.Consumers.{fold_from_yields_List}
@@ -16,7 +16,7 @@ returns c =
     let w = c.args.w in
     let few : length xs ≤ 24 = omega (arith, ap length c.as_slice.ensures.value, c.as_slice.ensures.fits) in
     let low : (i : ℕ) → i < length xs → place xs i < 32 = λ i h. omega (arith, few, order_below (length xs) xs i h, place_is (length xs) xs o.once (λ _. refl) i) in
-    fold_from_yields_List _ (λ (v : ℕ) (q : ℕ × ℕ). put q.1 (bit q.0 w) v) w c.fold.result c.fold.ensures.ran
+    fold_from_yields_List _ (λ (v : ℕ) (q : ℕ × ℕ). put (q.1 % 32) (bit q.0 w) v) w c.fold.result c.fold.ensures.ran
     (YieldsList-from_zip (YieldsList-from_range 0 24 24 (cc) (omega arith)) (YieldsList-from_slice xs (cc)))
     (λ a x b q k. search (rules, put_is))
     ∙ placed_from (place xs) w 0 24 xs few
