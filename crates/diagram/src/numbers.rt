@@ -58,7 +58,7 @@ impl Diagram<'_> {
         1 << self.n
     }
 
-    // The node of a number, and none for a constant, which wraps to past every place, and for a number that is not held.
+    // The node of a number, and none for a constant, which wraps to past every place, and for one that is not held.
     // Lent: a walk down a diagram that copied each node, and tested that its variable has a bit, took twice the time.
     fn node(&self, a: u16) -> Option<&Node>
         ensures { option_map (λ x. x.now) result ≡ node_under (listed self.now) a }

@@ -63,10 +63,6 @@ pub is_there : {X : Type 0} (o : Option X) → is_some o ≡ true → (x : X) ×
 is_there None e = never (cc)
 is_there (Some x) e = (x, refl)
 
-pub not_there : {X : Type 0} (o : Option X) → is_some o ≡ false → o ≡ None
-not_there None e = refl
-not_there (Some x) e = never (cc)
-
 -- what the verdict call answers
 pub told_by : {R : Type 0} (now : R → Search) (P : R → Type 0) (st : State) (w : World) (o : Option R) (v : Verdict) → option_map now o ≡ w.search
     → MatchOption o (v ≡ verdict.Empty) P → ((k : R) → P k → v ≡ (now k).last.verdict) → Keeps st w → v ≡ told st

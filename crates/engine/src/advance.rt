@@ -15,7 +15,8 @@ use uses::fault::Fault;
 use uses::verdict::Verdict;
 
 impl Search {
-    // From the last set the next one, and the verdict with it. Not inlined, as a load is not.
+    // From the last set the next one, and the verdict with it.
+    // Not inlined: its frame is large, and a refusal needs none.
     #[inline(never)]
     fn step<S: Store>(&self, store: &mut S) -> Result<Stage, Unmade>
         requires { length self.now.earlier.items < MOST_ADVANCES }

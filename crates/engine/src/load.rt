@@ -41,11 +41,14 @@ impl<S: Store> Session<S> {
         self.load_first(source)
     }
 
-    // The same where nothing is loaded. Not inlined, since its frame is large, and a refusal of what is loaded needs none.
+    // The same where nothing is loaded. Not inlined: its frame is large, and a refusal needs none.
     #[inline(never)]
     fn load_first(&mut self, source: Source) -> Result<Verdict, Fault>
         requires { self.old.search ≡ None }
-        ensures next { Next (world S.Store.shows self.old) (load source.entry.circuit.now source.entry.assumption.now source.entry.property.now result) (world S.Store.shows self.new) }
+        ensures next { Next
+            (world S.Store.shows self.old)
+            (load source.entry.circuit.now source.entry.assumption.now source.entry.property.now result)
+            (world S.Store.shows self.new) }
         ensures refused { is_err result ≡ true → self.new.search ≡ self.old.search }
     {
         let width = self.store.figures().variables;

@@ -149,7 +149,7 @@ small_least : (n : ℕ) (xs : List ℕ) → ((j : ℕ) → j < n → 1 ≤ times
 small_least zero xs h = omega arith
 small_least (suc n) xs h = omega (arith, small_suc n xs, h n (omega arith), small_least n xs (λ j l. h j (omega arith)))
 
--- where no number below n is missing, a list that is no longer has each once
+-- a list of no more entries than n in which no number below n is missing has each once
 ones_small : (n : ℕ) (xs : List ℕ) → ((j : ℕ) → j < n → 1 ≤ times j xs) → small n xs ≤ n → (j : ℕ) → j < n → times j xs ≡ 1
 ones_small zero xs h l j i = absurd (omega arith)
 ones_small (suc n) xs h l j i =

@@ -94,7 +94,7 @@ impl Store for Table<'_> {
     fn figures(&mut self) -> Figures {
         Figures {
             variables: self.n,
-            used: self.made() as u32,
+            used: self.list.len() as u32,
             capacity: self.list.capacity() as u32,
             top_price: 1,
         }

@@ -39,6 +39,7 @@ impl Table<'_> {
     }
 
     // The number of what the task asks for: a constant has its own, and another table is found or added.
+    // Not inlined, so that a refusal clears no table.
     #[inline(never)]
     pub(super) fn make(&mut self, task: Task) -> Result<u16, Refusal>
         requires { within (shows self.old) task ≡ true }
